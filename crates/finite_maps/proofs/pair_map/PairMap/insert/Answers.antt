@@ -1,0 +1,16 @@
+use Rattle.std.proofs.Common.{ap, sym, ◌∙◌, is_some}
+use Rattle.std.specs.FinMap as map
+use Rattle.finite_maps.proofs.EntryLaws.{get_given, insert_given, remove_given, pair_total, pair_exact}
+use Rattle.finite_maps.proofs.pair_map.PairMap.insert.Goals as goal
+
+pub returns-in-Ok-clause-before : goal.returns-in-Ok-clause-before
+returns-in-Ok-clause-before g c = c.in-Ok.ensures.old ∙ sym (get_given pair_total c.self.inside.tree.entries c.args.key) ∙ ap (λ m. map.get m c.args.key) c.self.view_is
+
+pub returns-in-Ok-clause-ok : goal.returns-in-Ok-clause-ok
+returns-in-Ok-clause-ok g c =
+    insert_given pair_total pair_exact c.self.inside.tree.entries c.insert.new.self.entries c.args.key c.args.value c.in-Ok.ensures.updates.0
+    ∙ ap (λ m. map.insert m c.args.key c.args.value) c.self.view_is
+
+pub returns-clause-present : goal.returns-clause-present
+returns-clause-present g c some =
+    ap is_some (sym c.in-Err.ensures.absent ∙ sym (get_given pair_total c.self.inside.tree.entries c.args.key) ∙ ap (λ m. map.get m c.args.key) c.self.view_is) ∙ some

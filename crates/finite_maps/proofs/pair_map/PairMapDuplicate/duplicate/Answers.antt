@@ -1,0 +1,9 @@
+use Rattle.std.proofs.Common.{◌∙◌, ap}
+use Rattle.std.specs.FinMap.{empty}
+use Rattle.finite_maps.proofs.EntryLaws.{put_all, put_all-empty, pair_total, pair_exact}
+use Rattle.finite_maps.proofs.pair_map.PairMapDuplicate.duplicate.Goals as goal
+
+pub loop-key-init : goal.loop-key-init
+loop-key-init g c =
+    let made = put_all-empty pair_total pair_exact c.self.inside.tree.entries c.iter-key-items.ensures.ordered ∙ c.self.view_is in
+    (tt, tt, rw c.new-copy.ensures (ap (put_all empty) (c.into_iter-key-iterator.ensures.into_iter_gives ∙ c.iter-key-items.ensures.rest) ∙ made))

@@ -1,0 +1,13 @@
+-- The order of pairs of numbers.
+use Rattle.std.specs.declared.cmp.Ordering.{Ordering}
+use Rattle.std.specs.Prelude.{ℕ}
+use Rattle.std.specs.Ordering.{nat_cmp, ordering_then}
+use Rattle.std.specs.Coded.{Coded, coded×, coded_ℕ}
+
+-- pairs by the first number, and then by the second
+abbrev pub pair_cmp : ℕ × ℕ → ℕ × ℕ → Ordering
+pair_cmp x y = ordering_then (nat_cmp x.0 y.0) (nat_cmp x.1 y.1)
+
+-- the code of a pair of numbers
+abbrev pub coded_pair : Coded (ℕ × ℕ)
+coded_pair = coded× coded_ℕ coded_ℕ
