@@ -1,5 +1,5 @@
 -- A lower place is nested less.
-use Rattle.std.specs.Prelude.{ℕ, ◌≤◌, max}
+use Rattle.std.specs.Prelude.{◌≤◌, max}
 use Rattle.std.proofs.Common.{arith}
 use Rattle.vfs_tree.specs.Place.{nesting}
 use Rattle.vfs_tree.specs.PlaceView.{seen}

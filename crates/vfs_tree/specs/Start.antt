@@ -1,5 +1,5 @@
 -- The world at the start.
-use Rattle.std.specs.Prelude.{ℕ, zero, suc, false, Option, Some, None}
+use Rattle.std.specs.Prelude.{ℕ, zero, suc, false, None}
 use Rattle.std.specs.Ordering.{nat_cmp}
 use Rattle.std.specs.FinMap.{FinMap, empty, insert}
 use Rattle.vfs_tree.specs.Place.{Mem}

@@ -1,4 +1,4 @@
-ghost use Rattle.std.specs.Prelude.{◌≡◌, ◌+◌, ◌-◌, ◌≤◌, ◌↔◌, ◌++◌, [], length, IsTrue, IfOk, OnOk, OnErr};
+ghost use Rattle.std.specs.Prelude.{◌≡◌, ◌+◌, ◌-◌, ◌≤◌, ◌↔◌, ◌++◌, [], length, max, IsTrue, IfOk, OnOk, OnErr};
 
 use finite_maps::Duplicate;
 use std::alloc::{AllocError, Global};
@@ -86,42 +86,51 @@ impl Duplicate for Bytes {
 #[derive(Debug, Drop)]
 pub struct ByteBuffer {
     bytes: Vec<u8>,
+    spare: usize,
 }
 
 impl Model for ByteBuffer {
-    ghost use Rattle.std.specs.Prelude.{◌-◌, vec_len, vec_capacity};
+    ghost use Rattle.std.specs.Prelude.{◌+◌, ◌≤◌, vec_len, vec_capacity};
     ghost use Rattle.vfs_tree.specs.Buffer.{Buffer};
 
     ghost Value = { Buffer };
 
-    ghost view = { λ b. record { bytes = b.bytes.items; spare = vec_capacity b.bytes - vec_len b.bytes } };
+    ghost view = { λ b. record { bytes = b.bytes.items; spare = b.spare } };
+
+    ghost invariant = { λ b. vec_len b.bytes + b.spare ≤ vec_capacity b.bytes };
 }
 
 impl ByteBuffer {
     /// No bytes, and no room for any.
     pub fn new(alloc: Global) -> ByteBuffer
-        ensures { result.bytes ≡ [] }
+        ensures bytes { result.bytes ≡ [] }
+        ensures spare { result.spare ≡ 0 }
     {
         ByteBuffer {
             bytes: Vec::new(alloc),
+            spare: 0,
         }
     }
 
     /// Makes room for at least `more` bytes. The only fault is want of memory.
     pub fn reserve(&mut self, more: usize) -> Result<(), AllocError>
-        ensures room { OnOk result (more ≤ self.new.spare) }
+        ensures room { OnOk result (self.new.spare ≡ max self.old.spare more) }
         ensures kept { self.new.bytes ≡ self.old.bytes }
+        ensures err { OnErr result (self.new ≡ self.old) }
     {
-        self.bytes.reserve(more)
+        self.bytes.reserve(more)?;
+        self.spare = self.spare.max(more);
+        Ok(())
     }
 
-    /// Appends the bytes, for which there is room.
+    /// Appends the bytes, for which there is room, without memory.
     pub fn push_slice(&mut self, bytes: &[u8])
         requires { length bytes.now ≤ self.old.spare }
         ensures bytes { self.new.bytes ≡ self.old.bytes ++ bytes.now }
-        ensures spare { self.new.spare + length bytes.now ≡ self.old.spare }
+        ensures spare { self.new.spare ≡ self.old.spare - length bytes.now }
     {
         self.bytes.extend_from_slice(bytes).unwrap();
+        self.spare -= bytes.len();
     }
 
     /// The bytes.

@@ -2,7 +2,7 @@ use Rattle.std.proofs.Common.{ap, sym, ◌∙◌, is_some}
 use Rattle.std.specs.FinMap as map
 use Rattle.std.specs.Cmp.{nat_cmp_total}
 use Rattle.std.proofs.lemmas.Map.Lookups.{exact_unsigned}
-use Rattle.finite_maps.proofs.EntryLaws.{get_given, insert_given, remove_given}
+use Rattle.finite_maps.proofs.EntryLaws.{get_given, insert_given}
 use Rattle.finite_maps.proofs.number_map.NumberMap.insert.Goals as goal
 
 pub returns-in-Ok-clause-before : goal.returns-in-Ok-clause-before

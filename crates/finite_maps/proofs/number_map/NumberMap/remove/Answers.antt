@@ -2,7 +2,7 @@ use Rattle.std.proofs.Common.{ap, sym, ◌∙◌}
 use Rattle.std.specs.FinMap as map
 use Rattle.std.specs.Cmp.{nat_cmp_total}
 use Rattle.std.proofs.lemmas.Map.Lookups.{exact_unsigned}
-use Rattle.finite_maps.proofs.EntryLaws.{get_given, insert_given, remove_given}
+use Rattle.finite_maps.proofs.EntryLaws.{get_given, remove_given}
 use Rattle.finite_maps.proofs.number_map.NumberMap.remove.Goals as goal
 
 pub returns-clause-before : goal.returns-clause-before

@@ -1,6 +1,6 @@
 use Rattle.std.proofs.Common.{ap, sym, ◌∙◌}
 use Rattle.std.specs.FinMap as map
-use Rattle.finite_maps.proofs.EntryLaws.{get_given, insert_given, remove_given, pair_total, pair_exact}
+use Rattle.finite_maps.proofs.EntryLaws.{get_given, pair_total}
 use Rattle.finite_maps.proofs.pair_map.PairMap.get.Goals as goal
 
 pub returns : goal.returns

@@ -1,7 +1,5 @@
 use Rattle.std.proofs.Common.{ap, sym, ◌∙◌, refl, subst}
 use Rattle.std.specs.Prelude.{IsSome}
-
-
 use Rattle.std.specs.FinMap as fin
 use Rattle.finite_maps.proofs.EntryLaws.{get_given, insert_given, pair_total, pair_exact}
 use Rattle.finite_maps.proofs.pair_map.PairMap.get_mut.Goals as goal

@@ -1,6 +1,6 @@
 use Rattle.std.proofs.Common.{ap, sym, ◌∙◌, is_some}
 use Rattle.std.specs.FinMap as map
-use Rattle.finite_maps.proofs.EntryLaws.{get_given, insert_given, remove_given, pair_total, pair_exact}
+use Rattle.finite_maps.proofs.EntryLaws.{get_given, insert_given, pair_total, pair_exact}
 use Rattle.finite_maps.proofs.pair_map.PairMap.insert.Goals as goal
 
 pub returns-in-Ok-clause-before : goal.returns-in-Ok-clause-before
