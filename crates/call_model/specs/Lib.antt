@@ -1,1 +1,5 @@
 pub mod Recorded
+pub mod Steps
+pub mod Walk
+pub mod Apply
+pub mod Legal

@@ -35,6 +35,7 @@ impl History {
     /// Makes room for at least `more` entries. The only fault is want of memory.
     pub fn reserve(&mut self, more: usize) -> Result<(), AllocError>
         ensures room { OnOk result (more ≤ self.new.spare) }
+        ensures never_less { self.old.spare ≤ self.new.spare }
         ensures kept { self.new.entries ≡ self.old.entries }
     {
         self.entries.reserve(more)

@@ -9,9 +9,15 @@
 mod call;
 mod entry;
 mod history;
+mod laws;
 mod reply;
+mod step;
+#[cfg(test)]
+mod tests;
 
 pub use call::{Access, Call, Flags, Line, Whence};
 pub use entry::{Entry, Inner, Ref};
 pub use history::History;
+pub use laws::legal_histories_grow;
 pub use reply::{MountWord, Reply};
+pub use step::Step;

@@ -8,6 +8,8 @@
 mod duplicate;
 mod number_map;
 mod pair_map;
+#[cfg(test)]
+mod tests;
 
 pub use duplicate::Duplicate;
 pub use number_map::NumberMap;

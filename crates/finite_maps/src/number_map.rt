@@ -1,4 +1,4 @@
-ghost use Rattle.std.specs.Prelude.{◌≡◌, ℕ, IfOk, IsOk, IsSome, Some, OnOk, OnErr};
+ghost use Rattle.std.specs.Prelude.{◌≡◌, ◌<◌, ◌^◌, ◌↔◌, ℕ, IsTrue, IfOk, IfErr, IsOk, IsSome, Some, OnOk, OnErr};
 ghost use Rattle.std.specs.Option.{option_copied, option_copied_mut};
 ghost use Rattle.std.specs.Ordering.{nat_cmp};
 ghost use Rattle.std.specs.FinMap as map;
@@ -6,7 +6,7 @@ ghost use Rattle.std.specs.Borrow.{sem};
 ghost use Rattle.finite_maps.specs.Lending.{LendsAt};
 
 use crate::duplicate::Duplicate;
-use std::alloc::{AllocError, Global};
+use std::alloc::{AllocError, AllocFailed, Global};
 use std::collections::BTreeMap;
 use std::collections::btree_map::Iter;
 use std::marker::Model;
@@ -29,6 +29,13 @@ impl<V> Model for NumberMap<V> {
     ghost view = { λ a. map.from_entries a.tree.entries };
 }
 
+/// The value that came back from an insert.
+fn value_of<V>(failed: AllocFailed<(u32, V)>) -> V
+    ensures { result ≡ failed.value.1 }
+{
+    failed.value.1
+}
+
 impl<V> NumberMap<V> {
     /// A map without entries.
     pub fn new(alloc: Global) -> Self
@@ -44,6 +51,21 @@ impl<V> NumberMap<V> {
         ensures { option_copied result ≡ map.get self.now key }
     {
         self.tree.get(&key)
+    }
+
+    /// How many entries there are.
+    pub fn len(&self) -> usize
+        ensures len { result ≡ map.len self.now }
+        ensures small { result < 2 ^ 63 }
+    {
+        self.tree.len()
+    }
+
+    /// Whether there is no entry.
+    pub fn is_empty(&self) -> bool
+        ensures { IsTrue result ↔ (map.len self.now ≡ 0) }
+    {
+        self.len() == 0
     }
 
     /// The value at the key, to be changed in place.
@@ -77,6 +99,20 @@ impl<V: Drop> NumberMap<V> {
             Ok(before) => Ok(before),
             Err(_) => Err(AllocError),
         }
+    }
+
+    /// As `insert`, but for want of memory the value comes back.
+    pub fn try_insert(&mut self, key: u32, value: V) -> Result<Option<V>, V>
+        ensures before { IfOk result (λ before. before ≡ map.get self.old key) }
+        ensures ok { OnOk result (self.new ≡ map.insert self.old key value) }
+        ensures back { IfErr result (λ back. back ≡ value) }
+        ensures err { OnErr result (self.new ≡ self.old) }
+    {
+        let failed = match self.tree.insert(key, value) {
+            Ok(before) => return Ok(before),
+            Err(failed) => failed,
+        };
+        Err(value_of(failed))
     }
 
     /// Takes the entry at the key away, and answers its value.

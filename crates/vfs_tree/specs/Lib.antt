@@ -6,3 +6,6 @@ pub mod Place
 pub mod PlaceView
 pub mod PlaceFalls
 pub mod Start
+pub mod Nodes
+pub mod Edits
+pub mod Limits

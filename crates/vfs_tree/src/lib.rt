@@ -14,6 +14,8 @@ mod name_map;
 mod node;
 mod open;
 mod place;
+#[cfg(test)]
+mod tests;
 mod world;
 
 pub use bytes::{ByteBuffer, Bytes};

@@ -1,4 +1,5 @@
 ghost use Rattle.std.specs.Prelude.{◌≡◌, ◌<◌, IfOk};
+ghost use Rattle.vfs_tree.specs.Nodes.{IsNumbered};
 ghost use Rattle.vfs_tree.specs.Start.{empty_store, root_mount, root_cwds, start_world};
 
 use crate::limits::Limits;
@@ -61,32 +62,42 @@ fn start_cwds(alloc: Global, callers: u32) -> Result<NumberMap<Cwd>, AllocError>
     Ok(cwds)
 }
 
+/// The world with mount 0 alone, whose root is each caller's current directory.
+fn root_world(alloc: Global, limits: Limits) -> Result<World, AllocError>
+    requires { limits.callers < 4294967295 }
+    ensures { IfOk result (λ world. world ≡ start_world limits) }
+{
+    let mut stores = NumberMap::new(alloc);
+    stores.insert(0, Store::new(alloc)?)?;
+    let root = Mount {
+        number: 0,
+        kind: MountKind::Mem,
+        on: None,
+        cut: false,
+    };
+    let mut mounts = NumberMap::new(alloc);
+    mounts.insert(0, root)?;
+    Ok(World {
+        stores,
+        mounts,
+        opens: PairMap::new(alloc),
+        cwds: start_cwds(alloc, limits.callers)?,
+        leaving: NumberMap::new(alloc),
+        next_mount: 1,
+        limits,
+    })
+}
+
 impl World {
     /// The world at the start: mount 0 is a memory file system with an empty root, which is every caller's current
     /// directory. The only fault is want of memory.
     pub fn start(alloc: Global, limits: Limits) -> Result<World, AllocError>
         requires { limits.callers < 4294967295 }
-        ensures { IfOk result (λ world. world ≡ start_world limits) }
+        ensures start { IfOk result (λ world. world ≡ start_world limits) }
+        ensures numbered { IfOk result IsNumbered }
     {
-        let mut stores = NumberMap::new(alloc);
-        stores.insert(0, Store::new(alloc)?)?;
-        let root = Mount {
-            number: 0,
-            kind: MountKind::Mem,
-            on: None,
-            cut: false,
-        };
-        let mut mounts = NumberMap::new(alloc);
-        mounts.insert(0, root)?;
-        Ok(World {
-            stores,
-            mounts,
-            opens: PairMap::new(alloc),
-            cwds: start_cwds(alloc, limits.callers)?,
-            leaving: NumberMap::new(alloc),
-            next_mount: 1,
-            limits,
-        })
+        let world = root_world(alloc, limits)?;
+        Ok(world)
     }
 }
 

@@ -1,0 +1,11 @@
+use Rattle.call_model.proofs.HistoryLaws.{legal-begin, legal-answer, replay-answer}
+use Rattle.call_model.proofs.laws.legal_histories_grow.Goals as goal
+
+pub returns-clause-begun : goal.returns-clause-begun
+returns-clause-begun c = legal-begin
+
+pub returns-clause-answered : goal.returns-clause-answered
+returns-clause-answered c = legal-answer
+
+pub returns-clause-left : goal.returns-clause-left
+returns-clause-left c = replay-answer

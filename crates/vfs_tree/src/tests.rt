@@ -1,0 +1,75 @@
+use super::*;
+use finite_maps::Duplicate;
+use std::alloc::Global;
+use std::test::Fail;
+
+#[test]
+fn errors(rt: HostRuntime) {
+    let table = [
+        (Errno::EPERM, 1, "EPERM"),
+        (Errno::ENOENT, 2, "ENOENT"),
+        (Errno::EIO, 5, "EIO"),
+        (Errno::ENXIO, 6, "ENXIO"),
+        (Errno::EBADF, 9, "EBADF"),
+        (Errno::EDEADLK, 11, "EDEADLK"),
+        (Errno::ENOMEM, 12, "ENOMEM"),
+        (Errno::EBUSY, 16, "EBUSY"),
+        (Errno::EEXIST, 17, "EEXIST"),
+        (Errno::EXDEV, 18, "EXDEV"),
+        (Errno::ENOTDIR, 20, "ENOTDIR"),
+        (Errno::EISDIR, 21, "EISDIR"),
+        (Errno::EINVAL, 22, "EINVAL"),
+        (Errno::ENFILE, 23, "ENFILE"),
+        (Errno::EMFILE, 24, "EMFILE"),
+        (Errno::EFBIG, 27, "EFBIG"),
+        (Errno::ENOSPC, 28, "ENOSPC"),
+        (Errno::EROFS, 30, "EROFS"),
+        (Errno::EAGAIN, 35, "EAGAIN"),
+        (Errno::ELOOP, 62, "ELOOP"),
+        (Errno::ENAMETOOLONG, 63, "ENAMETOOLONG"),
+        (Errno::ENOTEMPTY, 66, "ENOTEMPTY"),
+    ];
+    for (errno, number, text) in table {
+        assert_eq!(rt; errno_number(errno), number);
+        assert_eq!(rt; errno_text(errno), text);
+    }
+}
+
+fn name(alloc: Global, bytes: &[u8]) -> Result<Name, NameFault> {
+    Name::new(alloc, bytes)
+}
+
+#[test]
+fn bytes(rt: HostRuntime) -> Result<(), Fail> {
+    let alloc = rt.alloc();
+    let mut bytes = Bytes::new(alloc);
+    assert!(rt; bytes.is_empty());
+    bytes.extend_from_slice(b"ab")?;
+    bytes.extend_from_slice(b"\0")?;
+    assert_eq!(rt; bytes.len(), 3);
+    assert_eq!(rt; bytes.duplicate(alloc)?.as_slice(), b"ab\0".as_slice());
+    let of = Bytes::of(Vec::from_slice(alloc, b"c")?);
+    assert_eq!(rt; of.as_slice(), b"c".as_slice());
+    assert_eq!(rt; Bytes::copy_of(alloc, b"de")?.as_slice(), b"de".as_slice());
+    let mut buffer = ByteBuffer::new(alloc);
+    buffer.reserve(5)?;
+    buffer.push_slice(b"fgh");
+    buffer.push_slice(b"ij");
+    assert_eq!(rt; buffer.as_slice(), b"fghij".as_slice());
+    assert_eq!(rt; buffer.into_bytes().as_slice(), b"fghij".as_slice());
+    Ok(())
+}
+
+#[test]
+fn places_through_mounts(rt: HostRuntime) -> Result<(), Fail> {
+    let alloc = rt.alloc();
+    let lower = Place::null(alloc, 1, Place::mem(0, 2))?;
+    let other = Place::null(alloc, 1, Place::mem(0, 3))?;
+    assert!(rt; !lower.same(&other));
+    assert_eq!(rt; lower.mount(), 1);
+    assert!(rt; lower.bare().same(&Place::mem(0, 2)));
+    let low = Place::union_low(alloc, 2, 5, name(alloc, b"f")?, lower)?;
+    assert!(rt; low.duplicate(alloc)?.same(&low));
+    assert!(rt; !low.same(&Place::union_up(2, 5)));
+    Ok(())
+}
