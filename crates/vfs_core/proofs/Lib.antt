@@ -1,0 +1,2 @@
+pub mod KernLaws
+pub mod TurnLaws

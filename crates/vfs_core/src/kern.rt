@@ -1,0 +1,139 @@
+ghost use Rattle.std.specs.Prelude.{◌≡◌, ◌∷◌, ◌++◌, [], true, IsSome, is_some, IfOk, IfErr, OnOk, OnErr, None};
+ghost use Rattle.std.specs.FinMap as map;
+ghost use Rattle.vfs_tree.specs.Limits.{IsLawful, IsCaller};
+ghost use Rattle.vfs_tree.specs.Start.{start_world};
+ghost use Rattle.call_model.specs.Apply.{is_served};
+ghost use Rattle.call_model.specs.Legal.{IsLegal, replay};
+ghost use Rattle.vfs_core.specs.Stepping.{Steps};
+
+use crate::answering::answer_or_lack;
+use call_model::{Call, Entry, History, Reply};
+use finite_maps::{Duplicate, NumberMap};
+use std::alloc::{AllocError, Global};
+use std::marker::Model;
+use vfs_tree::{Limits, World};
+
+/// What a step of a call did.
+#[derive(Debug, Drop)]
+pub enum Stepped {
+    /// The call was answered: its entry stands in the history, and it is live no more.
+    Ended {
+        /// The answer.
+        reply: Reply,
+    },
+}
+
+/// The kernel: a world, and the history of calls that leads to it.
+///
+/// Contracts see its limits, the entries of its history, and its pending calls by caller. Its history is legal with its
+/// pending calls, from the world at the start on.
+#[derive(Drop)]
+pub struct Kern {
+    limits: Limits,
+    world: World,
+    history: History,
+    pending: NumberMap<Call>,
+}
+
+impl Model for Kern {
+    ghost use Rattle.vfs_core.specs.Kernel.{Kernel, IsKept};
+
+    ghost Value = { Kernel };
+
+    ghost use Rattle.call_model.specs.contracts.call.Call as call;
+    ghost use Rattle.std.specs.Coded.{codes, coded_ℕ};
+    ghost use Rattle.std.specs.Ordering.{nat_cmp};
+    ghost use Rattle.std.specs.FinMap as map;
+
+    ghost coded = { Prim.hlevel (codes, map.code {R = nat_cmp} coded_ℕ call.the_row.coded) };
+
+    ghost view = { λ k. record { limits = k.limits; history = k.history.entries; pending = k.pending } };
+
+    ghost invariant = { λ k. IsKept k.limits k.world k.history k.pending };
+}
+
+impl Kern {
+    /// A kernel in the world at the start, with an empty history. The only fault is want of memory.
+    pub fn new(alloc: Global, limits: Limits) -> Result<Kern, AllocError>
+        requires { IsLawful limits }
+        ensures { IfOk result (λ kern. kern ≡ record { limits = limits; history = []; pending = map.empty }) }
+    {
+        Ok(Kern {
+            limits,
+            world: World::start(alloc, limits)?,
+            history: History::new(alloc),
+            pending: NumberMap::new(alloc),
+        })
+    }
+
+    /// Makes a call of a caller that has none live. For want of memory the call comes back, and nothing changes.
+    pub fn begin(&mut self, caller: u32, call: Call) -> Result<(), Call>
+        requires caller { IsCaller self.old.limits caller }
+        requires idle { map.get self.old.pending caller ≡ None }
+        requires served { is_served call ≡ true }
+        ensures begun { OnOk result (self.new ≡ record self.old { pending = map.insert self.old.pending caller call }) }
+        ensures back { IfErr result (λ back. back ≡ call) }
+        ensures err { OnErr result (self.new ≡ self.old) }
+        ensures legal { IsLegal self.new.pending (start_world self.new.limits) self.new.history }
+    {
+        match self.history.reserve(self.pending.len() + 1) {
+            Ok(()) => {}
+            Err(_) => return Err(call),
+        }
+        match self.pending.try_insert(caller, call) {
+            Ok(_) => Ok(()),
+            Err(call) => Err(call),
+        }
+    }
+
+    /// Takes the live call of a caller one step further: as yet, to its end. For want of memory the answer is ENOMEM,
+    /// and the world stays.
+    pub fn step(&mut self, alloc: Global, caller: u32) -> Stepped
+        requires { IsSome (map.get self.old.pending caller) }
+        ensures stepped { Steps self.old self.new caller result }
+        ensures legal { IsLegal self.new.pending (start_world self.new.limits) self.new.history }
+    {
+        let Some(call) = self.pending.remove(caller) else {
+            unreachable!()
+        };
+        let answer = answer_or_lack(alloc, &mut self.world, caller, &call);
+        self.history.push(Entry::Call {
+            caller,
+            call,
+            reply: answer.entered,
+        });
+        Stepped::Ended {
+            reply: answer.reply,
+        }
+    }
+
+    /// The history of all calls that ended.
+    pub fn history(&self) -> &History
+        ensures history { result.now.entries ≡ self.now.history }
+        ensures legal { IsLegal self.now.pending (start_world self.now.limits) self.now.history }
+    {
+        &self.history
+    }
+
+    /// Whether a call of the caller is live.
+    pub fn is_live(&self, caller: u32) -> bool
+        ensures { result ≡ is_some (map.get self.now.pending caller) }
+    {
+        self.pending.get(caller).is_some()
+    }
+
+    /// A copy of the world that the history leaves. The only fault is want of memory.
+    pub fn world(&self, alloc: Global) -> Result<World, AllocError>
+        ensures { IfOk result (λ world. world ≡ replay (start_world self.now.limits) self.now.history) }
+    {
+        self.world.duplicate(alloc)
+    }
+
+    /// The limits that the kernel was made with.
+    pub fn limits(&self) -> Limits
+        ensures limits { result ≡ self.now.limits }
+        ensures lawful { IsLawful result }
+    {
+        self.limits
+    }
+}

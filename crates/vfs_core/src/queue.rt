@@ -1,0 +1,94 @@
+// The calls that callers have yet to make.
+ghost use Rattle.std.specs.Prelude.{◌≡◌, ◌∷◌, ◌++◌, [], true, None, OnOk, OnErr};
+ghost use Rattle.std.specs.List.{AllByRecursion};
+ghost use Rattle.std.specs.FinMap as map;
+ghost use Rattle.vfs_tree.specs.Limits.{IsCaller};
+ghost use Rattle.call_model.specs.Apply.{is_served};
+ghost use Rattle.vfs_core.specs.Queues.{queue_at, BeginsNext};
+
+use crate::job::Turned;
+use crate::kern::Kern;
+use call_model::Call;
+use finite_maps::NumberMap;
+use std::alloc::{AllocError, Global};
+use std::collections::VecDeque;
+use std::marker::Model;
+
+/// The calls that a caller has yet to make, the next one first.
+#[derive(Drop)]
+pub struct CallQueue {
+    calls: VecDeque<Call>,
+}
+
+impl Model for CallQueue {
+    ghost use Rattle.std.specs.Prelude.{List};
+    ghost use Rattle.call_model.specs.declared.call.Call.{Call};
+
+    ghost Value = { List Call };
+
+    ghost view = { λ q. q.calls.items };
+}
+
+impl CallQueue {
+    /// No call.
+    fn new(alloc: Global) -> CallQueue
+        ensures { result ≡ [] }
+    {
+        CallQueue {
+            calls: VecDeque::new(alloc),
+        }
+    }
+
+    /// Puts a call at the end. The only fault is want of memory.
+    fn push(&mut self, call: Call) -> Result<(), AllocError>
+        ensures ok { OnOk result (self.new ≡ self.old ++ call ∷ []) }
+        ensures err { OnErr result (self.new ≡ self.old) }
+    {
+        match self.calls.push_back(call) {
+            Ok(()) => Ok(()),
+            Err(_) => Err(AllocError),
+        }
+    }
+
+    /// Begins the next call of a caller that has none live. For want of memory the call stays the next one.
+    pub fn begin_next(&mut self, kern: &mut Kern, caller: u32) -> Turned
+        requires caller { IsCaller kern.old.limits caller }
+        requires idle { map.get kern.old.pending caller ≡ None }
+        requires served { AllByRecursion (λ call. is_served call ≡ true) self.old }
+        ensures { BeginsNext self.old self.new kern.old kern.new caller result }
+    {
+        let call = match self.calls.pop_front() {
+            Some(call) => call,
+            None => return Turned::Idle,
+        };
+        match kern.begin(caller, call) {
+            Ok(()) => Turned::Began,
+            Err(call) => {
+                self.calls.push_front_reserved(call);
+                Turned::NoMemory
+            }
+        }
+    }
+}
+
+/// Puts a call at the end of its caller's queue. The only fault is want of memory.
+pub fn enqueue(
+    alloc: Global,
+    queues: &mut NumberMap<CallQueue>,
+    caller: u32,
+    call: Call,
+) -> Result<(), AllocError>
+    ensures { OnOk result (queues.new ≡ map.insert queues.old caller (queue_at queues.old caller ++ call ∷ [])) }
+{
+    match queues.get_mut(caller) {
+        Some(queue) => match queue.push(call) {
+            Ok(()) => return Ok(()),
+            Err(error) => return Err(error),
+        },
+        None => {}
+    }
+    let mut queue = CallQueue::new(alloc);
+    queue.push(call)?;
+    queues.insert(caller, queue)?;
+    Ok(())
+}
