@@ -1,0 +1,49 @@
+ghost use Rattle.std.specs.Prelude.{◌≡◌, ◌++◌, OnOk};
+ghost use Rattle.script_text.specs.Flags.{access_letter, letter_if, flags_text, whence_text};
+
+use call_model::{Access, Flags, Whence};
+use std::alloc::AllocError;
+
+fn letter_of(access: Access) -> u8
+    ensures { result ≡ access_letter access }
+{
+    match access {
+        Access::Read => b'r',
+        Access::Write => b'w',
+        Access::Both => b'b',
+    }
+}
+
+fn put_letter_if(out: &mut Vec<u8>, set: bool, letter: u8) -> Result<(), AllocError>
+    ensures { OnOk result (out.new.items ≡ out.old.items ++ letter_if set letter) }
+{
+    if set {
+        out.push(letter)?;
+    }
+    Ok(())
+}
+
+/// Appends the flags word: `r`, `w` or `b`, and then those of `c`, `x`, `t`, `a` and `d` that are set, in this order.
+/// The only fault is want of memory.
+#[tactic(auto, unfolding(crate::specs::Flags::flags_text))]
+pub fn put_flags(out: &mut Vec<u8>, flags: Flags) -> Result<(), AllocError>
+    ensures { OnOk result (out.new.items ≡ out.old.items ++ flags_text flags) }
+{
+    out.push(letter_of(flags.access))?;
+    put_letter_if(out, flags.make, b'c')?;
+    put_letter_if(out, flags.fresh, b'x')?;
+    put_letter_if(out, flags.cut, b't')?;
+    put_letter_if(out, flags.append, b'a')?;
+    put_letter_if(out, flags.dir, b'd')
+}
+
+/// The word of the place from which an offset counts.
+pub fn text_of_whence(whence: Whence) -> &'static [u8]
+    ensures { result.now ≡ whence_text whence }
+{
+    match whence {
+        Whence::Set => b"set",
+        Whence::Cur => b"cur",
+        Whence::End => b"end",
+    }
+}
