@@ -1,0 +1,53 @@
+ghost use Rattle.std.specs.Prelude.{◌≡◌, ◌++◌, OnOk, OnErr};
+ghost use Rattle.trace_text.specs.History.{history_text};
+ghost use Rattle.trace_text.specs.Trees.{trees_text};
+ghost use Rattle.trace_text.specs.Output.{output_text};
+
+use crate::history::put_entries;
+use crate::trees::put_trees;
+use call_model::History;
+use std::alloc::Global;
+use vfs_tree::{Bytes, NoMemory, World};
+
+/// Appends the text of a history: one line for each entry, with its line end.
+///
+/// A call is its script line, ` = ` and the reply; an inner entry is the caller, ` + ` and what happened. The only
+/// fault is want of memory.
+pub fn print_history(alloc: Global, h: &History, out: &mut Bytes) -> Result<(), NoMemory>
+    ensures ok { OnOk result (out.new ≡ out.old ++ history_text h.now.entries) }
+    ensures err { OnErr result (out.new ≡ out.old) }
+{
+    let mut text = Vec::new(alloc);
+    put_entries(&mut text, h.as_slice())?;
+    out.extend_from_slice(text.as_slice())
+}
+
+/// Appends the trees of a world: one line for each mount in the order of their numbers, a memory mount followed by the
+/// nodes of its store in the order of their inode numbers, as far as they are the root or some name gives them.
+///
+/// The only fault is want of memory.
+pub fn print_trees(alloc: Global, w: &World, out: &mut Bytes) -> Result<(), NoMemory>
+    ensures ok { OnOk result (out.new ≡ out.old ++ trees_text w.now) }
+    ensures err { OnErr result (out.new ≡ out.old) }
+{
+    let mut text = Vec::new(alloc);
+    put_trees(alloc, &mut text, w)?;
+    out.extend_from_slice(text.as_slice())
+}
+
+/// Appends the whole output of a run: `vfs output 1`, the history, `trees`, the trees of the world that it left, and
+/// `end`, each line with its line end.
+///
+/// The only fault is want of memory.
+pub fn print_output(alloc: Global, h: &History, w: &World, out: &mut Bytes) -> Result<(), NoMemory>
+    ensures ok { OnOk result (out.new ≡ out.old ++ output_text h.now.entries w.now) }
+    ensures err { OnErr result (out.new ≡ out.old) }
+{
+    let mut text = Vec::new(alloc);
+    text.extend_from_slice(b"vfs output 1\n")?;
+    put_entries(&mut text, h.as_slice())?;
+    text.extend_from_slice(b"trees\n")?;
+    put_trees(alloc, &mut text, w)?;
+    text.extend_from_slice(b"end\n")?;
+    out.extend_from_slice(text.as_slice())
+}
