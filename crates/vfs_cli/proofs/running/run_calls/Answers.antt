@@ -1,0 +1,13 @@
+use Rattle.std.proofs.Common.{ap, sym, subst}
+use Rattle.vfs_core.specs.Kernel.{Kernel}
+use Rattle.vfs_cli.specs.Output.{HasRun}
+use Rattle.vfs_cli.proofs.RunLaws.{fits_script, has_run}
+use Rattle.vfs_cli.proofs.running.run_calls.Goals as goal
+
+pub new-requires-2-clause-fits : goal.new-requires-2-clause-fits
+new-requires-2-clause-fits c = fits_script c.args.script _ _ c.requires (ap (λ (k : Kernel). k.limits) c.in_ok-kern.ensures) c.into_vec.ensures
+
+pub returns : goal.returns
+returns c =
+    let run = has_run c.args.script c.in_ok-kern.kern c.in_ok-job.job c.run_seed.new.self _ c.in_ok-kern.ensures c.in_ok-job.ensures.kern c.in_ok-job.ensures.each_call c.into_vec.ensures c.in_ok-run_seed.ensures.runs c.in_ok-run_seed.ensures.done in
+    subst (λ (k : Kernel). HasRun c.args.script k) (sym c.into_kern.ensures) run
