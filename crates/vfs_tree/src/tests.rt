@@ -73,3 +73,42 @@ fn places_through_mounts(rt: HostRuntime) -> Result<(), Fail> {
     assert!(rt; !low.same(&Place::union_up(2, 5)));
     Ok(())
 }
+
+#[test]
+fn a_map_by_names(rt: HostRuntime) -> Result<(), Fail> {
+    let alloc = rt.alloc();
+    let long = name(alloc, b"ab")?;
+    let short = name(alloc, b"b")?;
+    let mut map = NameMap::new(alloc);
+    assert!(rt; map.insert(short.duplicate(alloc)?, 2)?.is_none());
+    assert!(rt; map.insert(long.duplicate(alloc)?, 1)?.is_none());
+    assert_eq!(rt; map.insert(short.duplicate(alloc)?, 3)?, Some(2));
+    let mut copy = map.duplicate(alloc)?;
+    assert_eq!(rt; map.remove(&long), Some(1));
+    assert!(rt; map.get(&long).is_none());
+    assert_eq!(rt; map.get(&short), Some(&3));
+    assert_eq!(rt; copy.iter().next(), Some((&long, &1)));
+    assert_eq!(rt; copy.remove(&short), Some(3));
+    Ok(())
+}
+
+#[test]
+fn a_list_of_names(rt: HostRuntime) -> Result<(), Fail> {
+    let alloc = rt.alloc();
+    let first = name(alloc, b"z")?;
+    assert!(rt; NameList::of(Vec::new(alloc)).is_empty());
+    let list = NameList::of(Vec::from_array(alloc, [first.duplicate(alloc)?])?);
+    assert_eq!(rt; list.len(), 1);
+    assert_eq!(rt; list.get(0), Some(&first));
+    assert!(rt; list.get(1).is_none());
+    assert_eq!(rt; list.as_slice().len(), 1);
+    Ok(())
+}
+
+#[test]
+fn what_is_no_name(rt: HostRuntime) {
+    let alloc = rt.alloc();
+    for bytes in [b"".as_slice(), b".", b"..", b"a/b", b"\0"] {
+        assert_eq!(rt; name(alloc, bytes).err(), Some(NameFault::Bad));
+    }
+}
