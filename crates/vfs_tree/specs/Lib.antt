@@ -9,3 +9,13 @@ pub mod Start
 pub mod Nodes
 pub mod Edits
 pub mod Limits
+pub mod Steps
+pub mod Paths
+pub mod Facts
+pub mod Layers
+pub mod Child
+pub mod Walk
+pub mod Mounts
+pub mod Views
+pub mod Visible
+pub mod StoreEdits

@@ -16,6 +16,8 @@ mod open;
 mod place;
 #[cfg(test)]
 mod tests;
+mod view;
+mod walk;
 mod world;
 
 pub use bytes::{ByteBuffer, Bytes};
@@ -28,4 +30,6 @@ pub use node::{Kind, NameEntry, Node, Store};
 pub use open::{Cwd, Mode, Open};
 pub use place::{Place, View};
 pub use std::alloc::AllocError as NoMemory;
+pub use view::{DirFacts, NameView};
+pub use walk::{Child, Component, Found, Leaf, Need, NodeId, Step};
 pub use world::World;
