@@ -6,8 +6,10 @@
 #![tactic(auto)]
 
 mod bytes;
+mod covering;
 mod errno;
 mod limits;
+mod links;
 mod mount;
 mod name;
 mod name_map;
@@ -19,6 +21,7 @@ mod tests;
 mod view;
 mod walk;
 mod world;
+mod world_view;
 
 pub use bytes::{ByteBuffer, Bytes};
 pub use errno::{Errno, errno_number, errno_text};

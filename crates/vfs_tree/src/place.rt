@@ -1,6 +1,7 @@
 ghost use Rattle.std.specs.Prelude.{◌≡◌, ◌↔◌, IsTrue, IfOk};
 ghost use Rattle.vfs_tree.specs.Place as seen;
 ghost use Rattle.vfs_tree.specs.Place.{mount_of, bare};
+ghost use Rattle.vfs_tree.specs.Layers.{same_place};
 
 use crate::name::Name;
 use finite_maps::Duplicate;
@@ -148,7 +149,8 @@ impl Place {
 
     /// Whether the two are one place.
     pub fn same(&self, other: &Place) -> bool
-        ensures { IsTrue result ↔ (self.now ≡ other.now) }
+        ensures equal { IsTrue result ↔ (self.now ≡ other.now) }
+        ensures test { result ≡ same_place self.now other.now }
     {
         match (&self.view, &other.view) {
             (View::Mem { mount, ino }, View::Mem { mount: m, ino: i }) => *mount == *m
