@@ -20,3 +20,4 @@ pub mod Mounts
 pub mod Views
 pub mod Visible
 pub mod StoreEdits
+pub mod FileEdits

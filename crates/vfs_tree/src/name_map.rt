@@ -9,6 +9,7 @@ use std::alloc::{AllocError, Global};
 use std::collections::BTreeMap;
 use std::collections::btree_map::Iter;
 use std::marker::Model;
+use std::mem;
 
 /// A map from names, which contracts see as a finite map. Its entries stand in the order of the names' bytes.
 #[derive(Debug, Drop)]
@@ -63,6 +64,18 @@ impl<V: Drop> NameMap<V> {
         match self.tree.insert(key, value) {
             Ok(before) => Ok(before),
             Err(_) => Err(AllocError),
+        }
+    }
+
+    /// Puts a value in the place of the one at the key, without memory, and answers the one that was there.
+    pub fn replace(&mut self, key: &Name, value: V) -> V
+        requires { IsSome (map.get self.old key.now) }
+        ensures before { Some result ≡ map.get self.old key.now }
+        ensures replaced { self.new ≡ map.insert self.old key.now value }
+    {
+        match self.tree.get_mut(key) {
+            Some(place) => mem::replace(place, value),
+            None => unreachable!(),
         }
     }
 
