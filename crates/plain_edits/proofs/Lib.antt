@@ -1,0 +1,3 @@
+pub mod BelowLaws
+pub mod NodeLaws
+pub mod StoreLaws
