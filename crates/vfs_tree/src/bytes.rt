@@ -1,4 +1,5 @@
-ghost use Rattle.std.specs.Prelude.{◌≡◌, ◌+◌, ◌-◌, ◌≤◌, ◌↔◌, ◌++◌, [], length, max, IsTrue, IfOk, OnOk, OnErr};
+ghost use Rattle.std.specs.Prelude.{◌≡◌, ◌+◌, ◌-◌, ◌≤◌, ◌<◌, ◌^◌, ◌↔◌, ◌++◌, [], length, max, take, drop, replicate, IsTrue, IfOk, OnOk, OnErr};
+ghost use Rattle.vfs_tree.specs.Bytes.{resize_bytes, write_bytes};
 
 use finite_maps::Duplicate;
 use std::alloc::{AllocError, Global};
@@ -71,6 +72,49 @@ impl Bytes {
         ensures err { OnErr result (self.new ≡ self.old) }
     {
         self.bytes.extend_from_slice(bytes)
+    }
+
+    /// Gives them that length: what is behind it is cut off, and what is missing is zeros. The only fault is want of
+    /// memory.
+    pub fn resize(&mut self, len: usize) -> Result<(), AllocError>
+        ensures ok { OnOk result (self.new ≡ resize_bytes self.old len) }
+        ensures err { OnErr result (self.new ≡ self.old) }
+    {
+        self.bytes.resize(len, 0)
+    }
+
+    /// Lengthens them by zeros to at least `len`.
+    fn grow_to(&mut self, len: usize) -> Result<(), AllocError>
+        ensures ok { OnOk result (self.new ≡ self.old ++ replicate (len - length self.old) 0) }
+        ensures err { OnErr result (self.new ≡ self.old) }
+    {
+        if len <= self.bytes.len() {
+            return Ok(());
+        }
+        self.bytes.resize(len, 0)
+    }
+
+    /// Puts a piece in the place of the bytes at `at`.
+    fn put(&mut self, at: usize, piece: &[u8])
+        requires { at + length piece.now ≤ length self.old }
+        ensures { self.new ≡ take at self.old ++ piece.now ++ drop (at + length piece.now) self.old }
+    {
+        self.bytes[at..at + piece.len()].copy_from_slice(piece);
+    }
+
+    /// Puts a piece at `at`, as pwrite(2) does: a gap before it is filled with zeros, and an empty piece changes nothing.
+    /// The only fault is want of memory.
+    pub fn write_at(&mut self, at: usize, piece: &[u8]) -> Result<(), AllocError>
+        requires { at + length piece.now < 2 ^ 64 }
+        ensures ok { OnOk result (self.new ≡ write_bytes self.old at piece.now) }
+        ensures err { OnErr result (self.new ≡ self.old) }
+    {
+        if piece.is_empty() {
+            return Ok(());
+        }
+        self.grow_to(at + piece.len())?;
+        self.put(at, piece);
+        Ok(())
     }
 }
 
