@@ -3,3 +3,10 @@ pub mod Steps
 pub mod Walk
 pub mod Apply
 pub mod Legal
+pub mod Checks
+pub mod NameRows
+pub mod DataRows
+pub mod Refs
+pub mod MountRows
+pub mod Effects
+pub mod Rows

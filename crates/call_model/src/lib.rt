@@ -12,6 +12,7 @@ mod history;
 mod laws;
 mod reply;
 mod step;
+mod target;
 #[cfg(test)]
 mod tests;
 
@@ -21,3 +22,4 @@ pub use history::History;
 pub use laws::legal_histories_grow;
 pub use reply::{MountWord, Reply};
 pub use step::Step;
+pub use target::Target;

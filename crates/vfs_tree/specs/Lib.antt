@@ -21,3 +21,4 @@ pub mod Views
 pub mod Visible
 pub mod StoreEdits
 pub mod FileEdits
+pub mod Carriers
