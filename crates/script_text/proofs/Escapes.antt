@@ -1,15 +1,17 @@
 -- The word of some bytes is read as these bytes, and it has no space and no line end.
-use Rattle.std.proofs.Common.{◌≡◌, ℕ, ◌+◌, ◌*◌, ◌/◌, ◌%◌, ◌<◌, true, false, ◌&&◌, not, nat_lt, ◌==◌, cond, List, [], ◌∷◌, ◌++◌, Some, refl, ap, ◌∙◌, arith, flat_map}
+use Rattle.std.proofs.Common.{◌≡◌, ℕ, ◌+◌, ◌-◌, ◌*◌, ◌/◌, ◌%◌, ◌<◌, true, false, ◌&&◌, not, nat_lt, ◌==◌, cond, List, [], ◌∷◌, ◌++◌, Some, refl, ap, subst, ◌∙◌, arith, flat_map}
 use Rattle.std.specs.List.{AllByRecursion, list_all}
 use Rattle.std.proofs.lemmas.Bool.{and_parts, and_from, not-true, eqb-true, ltb-true, agree_below_at}
+use Rattle.std.proofs.lemmas.Option.{same_Some}
 use Rattle.std.proofs.lemmas.List.Folds.{list_all-append}
-use Rattle.script_text.specs.declared.word.Escape.TheVariants.{Outside}
-use Rattle.script_text.specs.Word.{is_plain, hex_digit, byte_text, word_text}
-use Rattle.script_text.specs.Reading.{digit_value, bytes_from, bytes_at}
+use Rattle.script_text.specs.declared.word.Escape.TheVariants.{Outside, Sign, Digit}
+use Rattle.script_text.specs.Word.{IsBytes, is_plain, hex_digit, byte_text, word_text}
+use Rattle.script_text.specs.declared.word.Escape.{Escape}
+use Rattle.script_text.specs.ReadWord.{digit_value, bytes_from, bytes_at}
 use Rattle.script_text.proofs.Joined.{is_above}
 
-abbrev pub IsBytes : List ℕ → Type 0
-IsBytes bytes = AllByRecursion (λ b. b < 256) bytes
+digit_below : (c : ℕ) → digit_value c < 16
+digit_below c = let d : ℕ = cond (nat_lt c 58) (c - 48) (c - 87) in let below : d % 16 < 16 = omega arith in below
 
 digit_again : (d : ℕ) → d < 16 → digit_value (hex_digit d) ≡ d
 digit_again d lt = eqb-true (digit_value (hex_digit d)) d (agree_below_at (λ d. digit_value (hex_digit d) == d) (λ _. true) 16 d refl lt)
@@ -19,8 +21,10 @@ byte_again b rest lt =
     elim (is_plain b) as (λ t. is_plain b ≡ t → bytes_from Outside (cond t (b ∷ []) (37 ∷ hex_digit (b / 16) ∷ hex_digit (b % 16) ∷ []) ++ rest) ≡ b ∷ bytes_from Outside rest) [
       | true ↦ λ plain.
           let p = and_parts (nat_lt 32 b) (nat_lt b 127 && not (b == 37)) plain in
-          let other : (b == 37) ≡ false = not-true (b == 37) (and_parts (nat_lt b 127) (not (b == 37)) p.1).1 in
-          rw other refl
+          let low = and_parts (nat_lt b 127) (not (b == 37)) p.1 in
+          let other : (b == 37) ≡ false = not-true (b == 37) low.1 in
+          let below : b % 256 ≡ b = omega arith in
+          rw (other, below) refl
       | false ↦ λ escaped.
           let high : digit_value (hex_digit (b / 16)) ≡ b / 16 = digit_again (b / 16) (omega arith) in
           let low : digit_value (hex_digit (b % 16)) ≡ b % 16 = digit_again (b % 16) (omega arith) in
@@ -49,10 +53,21 @@ unfolding word_text
 word_above [] h = refl
 word_above (b ∷ bs) h = bytes_above (b ∷ bs) h
 
-pub plain_IsBytes : (bytes : List ℕ) → list_all is_plain bytes ≡ true → IsBytes bytes
-plain_IsBytes [] h = tt
-plain_IsBytes (b ∷ bs) h =
-    let p = and_parts (is_plain b) (list_all is_plain bs) h in
-    let low = and_parts (nat_lt b 127) (not (b == 37)) (and_parts (nat_lt 32 b) (nat_lt b 127 && not (b == 37)) p.0).1 in
-    let below : b < 127 = ltb-true b 127 low.0 in
-    (omega arith, plain_IsBytes bs p.1)
+-- what is read is bytes
+bytes_from_IsBytes : (e : Escape) (word : List ℕ) → IsBytes (bytes_from e word)
+bytes_from_IsBytes e [] = tt
+bytes_from_IsBytes Outside (c ∷ cs) =
+    elim (c == 37) as (λ t. IsBytes (cond t (bytes_from Sign cs) (c % 256 ∷ bytes_from Outside cs))) [
+      | true ↦ bytes_from_IsBytes Sign cs
+      | false ↦ (omega arith, bytes_from_IsBytes Outside cs)
+    ]
+bytes_from_IsBytes Sign (c ∷ cs) = bytes_from_IsBytes (Digit c) cs
+bytes_from_IsBytes (Digit high) (c ∷ cs) =
+    let first : digit_value high < 16 = digit_below high in
+    let second : digit_value c < 16 = digit_below c in
+    let below : 16 * digit_value high + digit_value c < 256 = omega arith in
+    (below, bytes_from_IsBytes Outside cs)
+
+pub bytes_found : (word bytes : List ℕ) → bytes_at word ≡ Some bytes → IsBytes bytes
+unfolding bytes_at
+bytes_found word bytes e = subst IsBytes (same_Some (bytes_from Outside word) bytes e) (bytes_from_IsBytes Outside word)

@@ -2,5 +2,13 @@ pub mod Joined
 pub mod Pieces
 pub mod Escapes
 pub mod Values
-pub mod Grammar
+pub mod CallLaws
+pub mod LineLaws
+pub mod LimitsLaws
+pub mod LinesLaws
+pub mod ScriptLaws
 pub mod Loop
+pub mod GeneratorLaws
+pub mod Printed
+pub mod Answered
+pub mod BadLaws

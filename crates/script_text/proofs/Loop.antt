@@ -1,64 +1,43 @@
 -- Reading lines one after the other, as a loop does.
-use Rattle.std.proofs.Common.{◌≡◌, ℕ, List, [], ◌∷◌, ◌++◌, codes, true, false, Option, Some, None, refl, sym, ap, ◌∙◌, append_assoc}
-use Rattle.std.specs.Str.{bytes_eq}
-use Rattle.vfs_tree.specs.declared.limits.Limits.{Limits}
-use Rattle.call_model.specs.declared.call.Line.{Line}
-use Rattle.script_text.specs.declared.script.Script.{Script}
-use Rattle.script_text.specs.declared.fault.LineFault.{LineFault}
-use Rattle.script_text.specs.declared.fault.LineFault.TheVariants as fault
-use Rattle.script_text.specs.Reading.{◌>>=◌, Fails, line_at, is_rest, lines_at}
-use Rattle.script_text.specs.Script.{default_limits, HasText}
+use Rattle.std.proofs.Common.{◌≡◌, ℕ, ◌+◌, ◌-◌, Bool, ◌==◌, List, [], ◌∷◌, ◌++◌, Option, Some, None, Result, Ok, Err, refl, sym, ap, ◌∙◌, append_assoc}
 use Rattle.std.proofs.lemmas.List.{append-nil}
+use Rattle.call_model.specs.declared.call.Line.{Line}
+use Rattle.script_text.specs.declared.fault.ScriptFault.{ScriptFault}
+use Rattle.script_text.specs.declared.fault.ScriptFault.TheVariants as fault
+use Rattle.script_text.specs.Reading.{FailsAt}
+use Rattle.script_text.specs.ReadScript.{step_at, onto, with_step, lines_at}
 
 -- what was read before, and what is still read
-abbrev pub with_front : List Line → Option (List Line) → Option (List Line)
-with_front front read = read >>= λ lines. Some (front ++ lines)
+abbrev pub with_front : List Line → Result (List Line) ℕ → Result (List Line) ℕ
+with_front front (Ok lines) = Ok (front ++ lines)
+with_front front (Err n) = Err n
 
-regroup : (front : List Line) (line : Line) (read : Option (List Line)) → with_front front (read >>= λ others. Some (line ∷ others)) ≡ with_front (front ++ line ∷ []) read
-regroup front line (Some others) = ap (λ (ls : List Line). Some ls) (simp append_assoc)
-regroup front line None = refl
+regroup : (front : List Line) (line : Line) (read : Result (List Line) ℕ) → with_front front (onto line read) ≡ with_front (front ++ line ∷ []) read
+regroup front line (Ok others) = ap (λ (ls : List Line). Ok ls) (simp append_assoc)
+regroup front line (Err n) = refl
 
-pub goes_on : (front : List Line) (text : List ℕ) (rest : List (List ℕ)) (line : Line) (total : Option (List Line)) → bytes_eq text (codes "end") ≡ false → line_at text ≡ Some line
-    → with_front front (lines_at (text ∷ rest)) ≡ total → with_front (front ++ line ∷ []) (lines_at rest) ≡ total
+pub goes_on : (callers left number : ℕ) (front : List Line) (text : List ℕ) (rest : List (List ℕ)) (line : Line) (total : Result (List Line) ℕ) → step_at callers (left == 0) number text rest ≡ Ok (Some line)
+    → with_front front (lines_at callers left number (text ∷ rest)) ≡ total → with_front (front ++ line ∷ []) (lines_at callers (left - 1) (number + 1) rest) ≡ total
 unfolding lines_at
-goes_on front text rest line total other read so_far =
-    let one : with_front front (lines_at (text ∷ rest)) ≡ with_front (front ++ line ∷ []) (lines_at rest) = rw (other, read) (regroup front line (lines_at rest)) in
+goes_on callers left number front text rest line total step so_far =
+    let one : with_front front (lines_at callers left number (text ∷ rest)) ≡ with_front (front ++ line ∷ []) (lines_at callers (left - 1) (number + 1) rest) = rw step (regroup front line (lines_at callers (left - 1) (number + 1) rest)) in
     sym one ∙ so_far
 
-pub ends_badly : (e : LineFault) (front : List Line) (text : List ℕ) (rest : List (List ℕ)) (total : Option (List Line)) → bytes_eq text (codes "end") ≡ false → Fails e (line_at text)
-    → with_front front (lines_at (text ∷ rest)) ≡ total → Fails e total
+pub ends_well : (callers left number : ℕ) (front : List Line) (text : List ℕ) (rest : List (List ℕ)) (total : Result (List Line) ℕ) → step_at callers (left == 0) number text rest ≡ Ok None
+    → with_front front (lines_at callers left number (text ∷ rest)) ≡ total → total ≡ Ok front
 unfolding lines_at
-ends_badly fault.NoMemory front text rest total other read so_far = tt
-ends_badly fault.Bad front text rest total other read so_far =
-    let one : with_front front (lines_at (text ∷ rest)) ≡ None = rw (other, read) refl in
+ends_well callers left number front text rest total step so_far =
+    let one : with_front front (lines_at callers left number (text ∷ rest)) ≡ Ok front = rw step (ap (λ (ls : List Line). Ok ls) (append-nil front)) in
     sym so_far ∙ one
 
-pub ends_well : (front : List Line) (text : List ℕ) (rest : List (List ℕ)) (total : Option (List Line)) → bytes_eq text (codes "end") ≡ true → is_rest rest ≡ true
-    → with_front front (lines_at (text ∷ rest)) ≡ total → total ≡ Some front
+pub ends_badly : (e : ScriptFault) (callers left number : ℕ) (front : List Line) (text : List ℕ) (rest : List (List ℕ)) (total : Result (List Line) ℕ) → FailsAt e (step_at callers (left == 0) number text rest)
+    → with_front front (lines_at callers left number (text ∷ rest)) ≡ total → FailsAt e total
 unfolding lines_at
-ends_well front text rest total end last so_far =
-    let one : with_front front (lines_at (text ∷ rest)) ≡ Some front = rw (end, last) (ap (λ (ls : List Line). Some ls) (append-nil front)) in
+ends_badly fault.NoMemory callers left number front text rest total step so_far = tt
+ends_badly (fault.BadLine n) callers left number front text rest total step so_far =
+    let one : with_front front (lines_at callers left number (text ∷ rest)) ≡ Err n = rw step refl in
     sym so_far ∙ one
 
-pub goes_past_end : (front : List Line) (text : List ℕ) (rest : List (List ℕ)) (total : Option (List Line)) → bytes_eq text (codes "end") ≡ true → is_rest rest ≡ false
-    → with_front front (lines_at (text ∷ rest)) ≡ total → total ≡ None
+pub never_ends : (callers left number : ℕ) (front : List Line) (total : Result (List Line) ℕ) → with_front front (lines_at callers left number []) ≡ total → total ≡ Err number
 unfolding lines_at
-goes_past_end front text rest total end last so_far =
-    let one : with_front front (lines_at (text ∷ rest)) ≡ None = rw (end, last) refl in
-    sym so_far ∙ one
-
-pub never_ends : (front : List Line) (total : Option (List Line)) → with_front front (lines_at []) ≡ total → total ≡ None
-unfolding lines_at
-never_ends front total so_far = sym so_far
-
--- ---- the whole script
-
-made : Limits → List Line → Script
-made limits lines = record { limits = limits; lines = lines }
-
-pub same_script : (read : Option (List Line)) (s : Script) (lines : List Line) → HasText s → read ≡ Some s.lines → read ≡ Some lines → record { limits = default_limits; lines = lines } ≡ s
-unfolding made
-same_script read s lines has p q =
-    let same : lines ≡ s.lines = cc in
-    let limits : made default_limits lines ≡ made s.limits lines = ap (λ (x : Limits). made x lines) (sym has.limits) in
-    limits ∙ ap (made s.limits) same
+never_ends callers left number front total so_far = sym so_far

@@ -2,5 +2,11 @@ pub mod Word
 pub mod Flags
 pub mod Keyword
 pub mod Line
+pub mod Fits
 pub mod Script
+pub mod BadLine
 pub mod Reading
+pub mod ReadWord
+pub mod ReadCall
+pub mod ReadScript
+pub mod Generator

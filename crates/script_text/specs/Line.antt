@@ -1,5 +1,5 @@
 -- The text of a line: a caller and its call.
-use Rattle.std.specs.Prelude.{ℕ, List, [], ◌∷◌, decimal}
+use Rattle.std.specs.Prelude.{ℕ, List, [], ◌∷◌, ◌++◌, decimal}
 use Rattle.std.specs.Fmt.{signed_decimal}
 use Rattle.std.specs.List.{join_with_byte, flat_map}
 use Rattle.call_model.specs.declared.call.Call.{Call}
@@ -53,6 +53,10 @@ line_words line = decimal line.caller ∷ keyword_text (keyword line.call) ∷ c
 -- the text of a line, without its line end: its words with a space between each two
 unfoldable pub line_text : Line → List ℕ
 line_text line = join_with_byte 32 (line_words line)
+
+-- the text of a line with its line end
+abbrev pub ended_line : Line → List ℕ
+ended_line line = line_text line ++ 10 ∷ []
 
 -- the text of a caller's call, that of their line
 abbrev pub call_text : ℕ → Call → List ℕ

@@ -1,5 +1,6 @@
 ghost use Rattle.std.specs.Prelude.{◌≡◌};
 ghost use Rattle.script_text.specs.declared.fault.LineFault.TheVariants as line;
+ghost use Rattle.script_text.specs.declared.fault.ScriptFault.TheVariants as script;
 
 use std::alloc::{AllocError, AllocFailed};
 use thiserror::Error;
@@ -10,12 +11,28 @@ pub enum ScriptFault {
     /// The bytes are no script.
     #[error("line {line} is no lawful line of a script")]
     BadLine {
-        /// The first line that isn't lawful at its place.
+        /// The first line that isn't lawful at its place, counted from 1.
         line: u32,
     },
     /// There is no memory for the script.
     #[error("no memory is left")]
     NoMemory,
+}
+
+impl From<AllocError> for ScriptFault {
+    ghost from_gives = { λ _ fault. fault ≡ script.NoMemory };
+
+    fn from(_: AllocError) -> ScriptFault {
+        ScriptFault::NoMemory
+    }
+}
+
+impl<T: Drop> From<AllocFailed<T>> for ScriptFault {
+    ghost from_gives = { λ _ fault. fault ≡ script.NoMemory };
+
+    fn from(_: AllocFailed<T>) -> ScriptFault {
+        ScriptFault::NoMemory
+    }
 }
 
 /// Why bytes became no line.

@@ -1,6 +1,9 @@
 ghost use Rattle.std.specs.Prelude.{◌≡◌, ◌++◌, OnOk};
 ghost use Rattle.script_text.specs.Flags.{access_letter, letter_if, flags_text, whence_text};
+ghost use Rattle.script_text.specs.Reading.{Gives};
+ghost use Rattle.script_text.specs.ReadWord.{access_of, has_letter, flags_at, whence_of};
 
+use crate::fault::LineFault;
 use call_model::{Access, Flags, Whence};
 use std::alloc::AllocError;
 
@@ -46,4 +49,53 @@ pub fn text_of_whence(whence: Whence) -> &'static [u8]
         Whence::Cur => b"cur",
         Whence::End => b"end",
     }
+}
+
+fn access_of(letter: u8) -> Access
+    ensures { result ≡ access_of letter }
+{
+    if letter == b'r' {
+        return Access::Read;
+    }
+    if letter == b'w' {
+        return Access::Write;
+    }
+    Access::Both
+}
+
+fn has_letter(letters: &[u8], letter: u8) -> bool
+    ensures { result ≡ has_letter letter letters.now }
+{
+    letters.contains(&letter)
+}
+
+/// The flags of a word that is spelled right, and some flags of any other word that isn't empty.
+#[tactic(auto, unfolding(crate::specs::ReadWord::flags_at))]
+pub fn flags_of(word: &[u8]) -> Result<Flags, LineFault>
+    ensures { Gives (λ x. x) result (flags_at word.now) }
+{
+    match word {
+        [access, letters @ ..] => Ok(Flags {
+            access: access_of(*access),
+            make: has_letter(letters, b'c'),
+            fresh: has_letter(letters, b'x'),
+            cut: has_letter(letters, b't'),
+            append: has_letter(letters, b'a'),
+            dir: has_letter(letters, b'd'),
+        }),
+        [] => Err(LineFault::Bad),
+    }
+}
+
+/// The place that a word names from which an offset counts, and some place for any word that is none.
+pub fn whence_of(word: &[u8]) -> Whence
+    ensures { result ≡ whence_of word.now }
+{
+    if word == b"set".as_slice() {
+        return Whence::Set;
+    }
+    if word == b"cur".as_slice() {
+        return Whence::Cur;
+    }
+    Whence::End
 }

@@ -4,21 +4,30 @@
 //! that is printed is read again, and a line that is read is printed as it was.
 #![tactic(auto)]
 
-mod built;
+mod call;
 mod cut;
 mod fault;
 mod flags;
+mod generator;
 mod keyword;
+mod laws;
+mod limits;
+mod line;
 mod number;
 mod printing;
 mod reading;
 mod script;
+mod script_printing;
 mod word;
 
 pub use fault::ScriptFault;
+pub use generator::{gen_script, mix, pick};
+pub use laws::texts_tell_scripts_apart;
+pub use number::put_number;
 pub use printing::{put_call, put_line};
 pub use reading::read_script;
 pub use script::{Lines, Script};
+pub use script_printing::print_script;
 pub use word::put_word;
 
 #[cfg(test)]

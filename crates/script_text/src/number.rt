@@ -1,13 +1,14 @@
 ghost use Rattle.std.specs.Prelude.{◌≡◌, ℕ, ◌<◌, ◌^◌, ◌++◌, OnOk, IfSome, IfNone, decimal};
 ghost use Rattle.std.specs.Fmt.{signed_decimal};
-ghost use Rattle.script_text.specs.Reading.{Gives, number_at};
+ghost use Rattle.script_text.specs.Reading.{Gives};
+ghost use Rattle.script_text.specs.ReadWord.{number_at, offset_at};
 
 use crate::fault::LineFault;
 use itoa::Buffer;
 use std::alloc::AllocError;
 
-/// Appends the number in decimal, without leading zeros. The only fault is want of memory.
-pub fn put_number(out: &mut Vec<u8>, number: u32) -> Result<(), AllocError>
+/// Appends the number in decimal, without leading zeros. The only fault is want of memory; then nothing was appended.
+pub fn put_number(out: &mut Vec<u8>, number: u64) -> Result<(), AllocError>
     ensures { OnOk result (out.new.items ≡ out.old.items ++ decimal number) }
 {
     let mut buffer = Buffer::new();
@@ -57,5 +58,16 @@ pub fn number_of(word: &[u8]) -> Result<u32, LineFault>
     match number_in(word) {
         Some(number) => Ok(number),
         None => Err(LineFault::Bad),
+    }
+}
+
+/// The offset that the word spells: a number, or `-` and a number. `-0` is read here, and is no spelling of 0.
+#[tactic(auto, unfolding(crate::specs::ReadWord::offset_at))]
+pub fn offset_of(word: &[u8]) -> Result<i64, LineFault>
+    ensures { Gives (λ x. x) result (offset_at word.now) }
+{
+    match word {
+        [b'-', digits @ ..] => Ok(-i64::from(number_of(digits)?)),
+        _ => Ok(i64::from(number_of(word)?)),
     }
 }

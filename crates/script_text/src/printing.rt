@@ -19,11 +19,12 @@ fn next_bytes(out: &mut Vec<u8>, bytes: &Bytes) -> Result<(), AllocError>
     put_word(out, bytes.as_slice())
 }
 
-fn next_number(out: &mut Vec<u8>, number: u32) -> Result<(), AllocError>
+/// Appends a space and the number. The only fault is want of memory.
+pub fn next_number(out: &mut Vec<u8>, number: u32) -> Result<(), AllocError>
     ensures { OnOk result (out.new.items ≡ out.old.items ++ 32 ∷ decimal number) }
 {
     out.push(b' ')?;
-    put_number(out, number)
+    put_number(out, u64::from(number))
 }
 
 fn next_offset(out: &mut Vec<u8>, offset: i64) -> Result<(), AllocError>
@@ -116,7 +117,7 @@ fn put_two(out: &mut Vec<u8>, first: &Bytes, second: &Bytes) -> Result<(), Alloc
 pub fn put_call(out: &mut Vec<u8>, caller: u32, call: &Call) -> Result<(), AllocError>
     ensures { OnOk result (out.new.items ≡ out.old.items ++ call_text caller call.now) }
 {
-    put_number(out, caller)?;
+    put_number(out, u64::from(caller))?;
     out.push(b' ')?;
     out.extend_from_slice(Keyword::of(call).text())?;
     put_call_words(out, call)?;

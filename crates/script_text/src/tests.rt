@@ -1,8 +1,8 @@
 use super::*;
-use call_model::{Access, Call, Flags, Line, Whence};
+use call_model::{Call, Line, Whence};
 use std::alloc::{AllocError, Global};
 use std::test::Fail;
-use vfs_tree::{Bytes, Limits};
+use vfs_tree::Limits;
 
 #[test]
 fn words(rt: HostRuntime) -> Result<(), Fail> {
@@ -21,109 +21,302 @@ fn words(rt: HostRuntime) -> Result<(), Fail> {
     Ok(())
 }
 
-fn printed(alloc: Global, caller: u32, call: Call) -> Result<Vec<u8>, AllocError> {
-    let mut out = Vec::new(alloc);
-    put_line(&mut out, &Line { caller, call })?;
-    Ok(out)
+#[test]
+fn numbers(rt: HostRuntime) -> Result<(), Fail> {
+    let mut out = Vec::new(rt.alloc());
+    put_number(&mut out, 18446744073709551615)?;
+    put_number(&mut out, 0)?;
+    assert_eq!(rt; out.as_slice(), b"184467440737095516150".as_slice());
+    Ok(())
+}
+
+/// A script whose second line this is.
+fn with_line(alloc: Global, line: &[u8]) -> Result<Vec<u8>, AllocError> {
+    let mut bytes = Vec::from_slice(alloc, b"vfs 1\n")?;
+    bytes.extend_from_slice(line)?;
+    bytes.extend_from_slice(b"\nend\n")?;
+    Ok(bytes)
+}
+
+/// The bad line of the bytes; 0 where they are a script.
+fn bad_line(alloc: Global, bytes: &[u8]) -> Result<u32, ScriptFault> {
+    match read_script(alloc, bytes) {
+        Ok(_) => Ok(0),
+        Err(ScriptFault::BadLine { line }) => Ok(line),
+        Err(ScriptFault::NoMemory) => Err(ScriptFault::NoMemory),
+    }
 }
 
 #[test]
-fn lines(rt: HostRuntime) -> Result<(), Fail> {
+fn each_call_is_printed_as_it_was_read(rt: HostRuntime) -> Result<(), Fail> {
     let alloc = rt.alloc();
-    let f = Flags {
-        access: Access::Both,
-        make: true,
-        fresh: true,
-        cut: true,
-        append: true,
-        dir: true,
-    };
-    let p = Bytes::copy_of(alloc, b"/a b")?;
-    assert_eq!(rt;
-        printed(alloc, 1, Call::Open { p, f })?.as_slice(),
-        b"1 open /a%20b bcxtad".as_slice()
-    );
-    let f = Flags {
-        access: Access::Write,
-        make: false,
-        fresh: false,
-        cut: true,
-        append: false,
-        dir: false,
-    };
-    let p = Bytes::new(alloc);
-    assert_eq!(rt;
-        printed(alloc, 16, Call::Open { p, f })?.as_slice(),
-        b"16 open % wt".as_slice()
-    );
-    let call = Call::Pread {
-        d: 0,
-        n: 9,
-        o: 4294967295,
-    };
-    assert_eq!(rt;
-        printed(alloc, 2, call)?.as_slice(),
-        b"2 pread 0 9 4294967295".as_slice()
-    );
-    let w = Bytes::copy_of(alloc, b"x")?;
-    assert_eq!(rt;
-        printed(alloc, 2, Call::Pwrite { d: 3, o: 7, w })?.as_slice(),
-        b"2 pwrite 3 7 x".as_slice()
-    );
-    let h = Whence::End;
-    assert_eq!(rt;
-        printed(alloc, 1, Call::Lseek { d: 1, h, i: -20 })?.as_slice(),
-        b"1 lseek 1 end -20".as_slice()
-    );
-    let t = Bytes::copy_of(alloc, b"../t")?;
-    let p = Bytes::copy_of(alloc, b"l")?;
-    assert_eq!(rt;
-        printed(alloc, 1, Call::Symlink { t, p })?.as_slice(),
-        b"1 symlink ../t l".as_slice()
-    );
-    let u = Bytes::copy_of(alloc, b"/up")?;
-    let p = Bytes::copy_of(alloc, b"/low")?;
-    assert_eq!(rt;
-        printed(alloc, 1, Call::MountUnion { u, p })?.as_slice(),
-        b"1 mountunion /up /low".as_slice()
-    );
-    Ok(())
-}
-
-#[test]
-fn a_script(rt: HostRuntime) -> Result<(), Fail> {
-    let text = b"vfs 1\n1 mkdir /a\n1 stat /a/b.c\nend\n";
-    let script = read_script(rt.alloc(), text)?;
-    assert_eq!(rt; script.limits, Limits::DEFAULT);
-    assert_eq!(rt; script.lines.len(), 2);
-    for line in script.lines.as_slice() {
-        assert_eq!(rt; line.caller, 1);
-    }
-    let calls = script.lines.as_slice();
-    assert!(rt; matches!(&calls[0].call, Call::Mkdir { p } if p.as_slice() == b"/a".as_slice()));
-    assert!(rt; matches!(&calls[1].call, Call::Stat { p } if p.as_slice() == b"/a/b.c".as_slice()));
-    assert_eq!(rt; read_script(rt.alloc(), b"vfs 1\nend\n")?.lines.len(), 0);
-    Ok(())
-}
-
-#[test]
-fn no_scripts(rt: HostRuntime) {
-    let table: [&[u8]; 12] = [
-        b"",
-        b"vfs 1",
-        b"vfs 1\n",
-        b"vfs 1\nend",
-        b"vfs 1\nend\n\n",
-        b"vfs 2\nend\n",
-        b"vfs 1\n2 mkdir /a\nend\n",
-        b"vfs 1\n1  mkdir /a\nend\n",
-        b"vfs 1\n1 mkdir a\nend\n",
-        b"vfs 1\n1 mkdir /a%20b\nend\n",
-        b"vfs 1\n1 mkdir /a/..\nend\n",
-        b"vfs 1\n1 unlink /a\nend\n",
+    let table: [&[u8]; 30] = [
+        b"1 mkdir /a",
+        b"2 rmdir /a%20b",
+        b"3 open % bcxtad",
+        b"4 close 0",
+        b"5 read 4294967295 65536",
+        b"6 pread 0 9 4294967295",
+        b"7 write 3 %00%ff",
+        b"8 pwrite 3 7 x",
+        b"9 lseek 1 end -4294967295",
+        b"10 truncate /f 1048576",
+        b"11 ftruncate 0 10",
+        b"12 stat /",
+        b"13 lstat a//b/..",
+        b"14 fstat 31",
+        b"15 readdir 2",
+        b"16 unlink /a.c",
+        b"1 rename /a /b",
+        b"1 link /a b",
+        b"1 symlink ../t l",
+        b"1 readlink l",
+        b"1 undelete /w",
+        b"1 chdir .",
+        b"1 fchdir 5",
+        b"1 statfs /%25",
+        b"1 mountmem /m",
+        b"1 mountnull / /n",
+        b"1 mountunion /up /low",
+        b"1 umount /m",
+        b"1 umountforce /m",
+        b"1 revoke /f",
     ];
+    let mut bytes = Vec::from_slice(alloc, b"vfs 1\n")?;
     for text in table {
-        let answer = read_script(rt.alloc(), text);
-        assert!(rt; matches!(answer, Err(ScriptFault::BadLine { line: 0 })));
+        bytes.extend_from_slice(text)?;
+        bytes.push(b'\n')?;
     }
+    bytes.extend_from_slice(b"end\n")?;
+    let script = read_script(alloc, &bytes)?;
+    assert_eq!(rt; script.limits, Limits::DEFAULT);
+    assert_eq!(rt; script.lines.len(), 30);
+    for (line, want) in script.lines.as_slice().iter().zip(table) {
+        let mut out = Vec::new(alloc);
+        put_line(&mut out, line)?;
+        assert_eq!(rt; out.as_slice(), want);
+    }
+    let again = print_script(alloc, &script)?;
+    assert_eq!(rt; again.as_slice(), bytes.as_slice());
+    Ok(())
+}
+
+#[test]
+fn values(rt: HostRuntime) -> Result<(), Fail> {
+    let alloc = rt.alloc();
+    let text =
+        b"vfs 1\nlimits 2 3 4 243\n1 open /a%20%2b wta\n2 lseek 7 cur -20\n2 write 1 %\nend\n";
+    let bad = bad_line(alloc, text)?;
+    assert_eq!(rt; bad, 3);
+    let text = b"vfs 1\nlimits 2 3 4 243\n1 open /a%20+ wta\n2 lseek 7 cur -20\n2 write 1 %\nend\n";
+    let script = read_script(alloc, text)?;
+    let limits = Limits {
+        callers: 2,
+        files: 3,
+        mounts: 4,
+        vnodes: 243,
+    };
+    assert_eq!(rt; script.limits, limits);
+    let lines = script.lines.as_slice();
+    assert_eq!(rt; lines.len(), 3);
+    assert!(rt;
+        matches!(&lines[0], Line { caller: 1, call: Call::Open { p, f } } if p.as_slice() == b"/a +".as_slice() && f.cut && f.append && !f.make)
+    );
+    assert!(rt;
+        matches!(
+            &lines[1],
+            Line {
+                caller: 2,
+                call: Call::Lseek {
+                    d: 7,
+                    h: Whence::Cur,
+                    i: -20
+                }
+            }
+        )
+    );
+    assert!(rt;
+        matches!(&lines[2], Line { caller: 2, call: Call::Write { d: 1, w } } if w.is_empty())
+    );
+    let again = print_script(alloc, &script)?;
+    assert_eq!(rt; again.as_slice(), text.as_slice());
+    Ok(())
+}
+
+#[test]
+fn default_limits_are_left_out(rt: HostRuntime) -> Result<(), Fail> {
+    let alloc = rt.alloc();
+    let script = read_script(alloc, b"vfs 1\nlimits 16 256 16 4096\n16 stat /\nend\n")?;
+    let text = print_script(alloc, &script)?;
+    assert_eq!(rt; text.as_slice(), b"vfs 1\n16 stat /\nend\n".as_slice());
+    Ok(())
+}
+
+#[test]
+fn no_words(rt: HostRuntime) -> Result<(), Fail> {
+    let alloc = rt.alloc();
+    let table: [&[u8]; 24] = [
+        b"1 stat /%61",
+        b"1 stat /%2f",
+        b"1 stat /%FF",
+        b"1 stat /a%",
+        b"1 stat %%",
+        b"1 stat /%0",
+        b"1 stat /\x80",
+        b"1 stat ",
+        b"1 stat",
+        b"1 stat /a ",
+        b" 1 stat /a",
+        b"1 stat  /",
+        b"1 Stat /",
+        b"1 mkdir /a /b",
+        b"1 rename /a",
+        b"1 pread 0 1",
+        b"1 open /f",
+        b"1 open /f c",
+        b"1 open /f rw",
+        b"1 open /f rxc",
+        b"1 open /f rcc",
+        b"1 lseek 0 Set 0",
+        b"1 frob /a",
+        b"",
+    ];
+    for line in table {
+        let bytes = with_line(alloc, line)?;
+        let bad = bad_line(alloc, &bytes)?;
+        assert_eq!(rt; bad, 2);
+    }
+    Ok(())
+}
+
+#[test]
+fn no_numbers(rt: HostRuntime) -> Result<(), Fail> {
+    let alloc = rt.alloc();
+    let table: [&[u8]; 20] = [
+        b"01 stat /",
+        b"0 stat /",
+        b"17 stat /",
+        b"1 close 00",
+        b"1 close 01",
+        b"1 close -1",
+        b"1 close +1",
+        b"1 close 4294967296",
+        b"1 lseek 0 set -0",
+        b"1 lseek 0 set 01",
+        b"1 lseek 0 set -4294967296",
+        b"1 lseek 0 set 4294967296",
+        b"limits 17 256 16 4096",
+        b"limits 16 257 16 4096",
+        b"limits 16 256 17 4096",
+        b"limits 16 256 16 4097",
+        b"limits 1 0 1 90",
+        b"limits 1 1 0 90",
+        b"limits 01 1 1 90",
+        b"limits 1 1 1",
+    ];
+    for line in table {
+        let bytes = with_line(alloc, line)?;
+        let bad = bad_line(alloc, &bytes)?;
+        assert_eq!(rt; bad, 2);
+    }
+    Ok(())
+}
+
+/// A script of so many lines `1 stat /`.
+fn many(alloc: Global, calls: u32) -> Result<Vec<u8>, AllocError> {
+    let mut bytes = Vec::from_slice(alloc, b"vfs 1\n")?;
+    for _ in 0..calls {
+        bytes.extend_from_slice(b"1 stat /\n")?;
+    }
+    bytes.extend_from_slice(b"end\n")?;
+    Ok(bytes)
+}
+
+#[test]
+fn bad_lines(rt: HostRuntime) -> Result<(), Fail> {
+    let alloc = rt.alloc();
+    let most = many(alloc, 4096)?;
+    let more = many(alloc, 4097)?;
+    let table: [(&[u8], u32); 22] = [
+        (&most, 0),
+        (&more, 4098),
+        (b"vfs 1\nlimits 16 256 16 3600\nend\n", 0),
+        (b"vfs 1\nlimits 16 256 16 3599\nend\n", 2),
+        (b"vfs 1\nlimits 0 1 1 90\nend\n", 2),
+        (b"vfs 1\nlimits 1 1 1 90\n2 stat /\nend\n", 3),
+        (b"vfs 1\n1 stat /%61\nend\n", 2),
+        (b"vfs 1\n1 stat  /\nend\n", 2),
+        (b"vfs 1\nend\n\n", 3),
+        (b"vfs 1\n1 mkdir /a\n1 mkd", 3),
+        (b"", 1),
+        (b"vfs 1", 1),
+        (b"vfs 2\nend\n", 1),
+        (b"\nvfs 1\nend\n", 1),
+        (b"vfs 1\n", 2),
+        (b"vfs 1\nend", 2),
+        (b"vfs 1\nlimits 1 1 1 90", 2),
+        (b"vfs 1\nlimits 1 1 1 90\n", 3),
+        (b"vfs 1\n1 stat /\nlimits 1 1 1 90\nend\n", 3),
+        (b"vfs 1\nend\nend\n", 3),
+        (b"vfs 1\nend\nx", 3),
+        (b"vfs 1\nend\n", 0),
+    ];
+    for (bytes, want) in table {
+        let bad = bad_line(alloc, bytes)?;
+        assert_eq!(rt; bad, want);
+    }
+    Ok(())
+}
+
+#[test]
+fn cuts(rt: HostRuntime) -> Result<(), Fail> {
+    let alloc = rt.alloc();
+    let script =
+        b"vfs 1\n1 mkdir /l\n1 open /l/f wc\n1 write 0 low\n1 close 0\n1 mkdir /u\n1 mountmem /u\n1 mountunion /u /l\n1 unlink /l/f\n1 stat /l/f\n1 undelete /l/f\n1 stat /l/f\n1 undelete /l/f\nend\n".as_slice();
+    for k in 0..script.len() {
+        let front = &script[..k];
+        let ends = front.iter().filter(|b| **b == b'\n').count();
+        let bad = bad_line(alloc, front)?;
+        assert!(rt; bad > 0 && ends == bad as usize - 1);
+    }
+    let bad = bad_line(alloc, script)?;
+    assert_eq!(rt; bad, 0);
+    Ok(())
+}
+
+#[test]
+fn scattered_words(rt: HostRuntime) {
+    let table: [(u64, u64, u64); 7] = [
+        (0, 0, 16294208416658607535),
+        (0, 1, 7960286522194355700),
+        (7, 8, 2476628477891077985),
+        (1234567, 0, 6457827717110365317),
+        (18446744073709551615, 0, 16490336266968443936),
+        (1, 18446744073709551615, 6238072747940578789),
+        (
+            18446744073709551615,
+            18446744073709551615,
+            13029008266876403067,
+        ),
+    ];
+    for (seed, k, want) in table {
+        assert_eq!(rt; mix(seed, k), want);
+    }
+    assert_eq!(rt; pick(7, 0, 3), 0);
+    assert_eq!(rt; pick(7, 2, 16), 2);
+    assert_eq!(rt; pick(9, 5, 1), 0);
+    assert_eq!(rt; pick(0, 0, 4294967295), 1564374505);
+}
+
+#[test]
+fn generated(rt: HostRuntime) -> Result<(), Fail> {
+    let alloc = rt.alloc();
+    let script = gen_script(alloc, 7, 24)?;
+    let text = print_script(alloc, &script)?;
+    let want =
+        b"vfs 1\n1 mkdir /base\n1 mkdir /up\n1 mkdir /view\n1 mkdir /base/d0\n1 mountmem /up\n1 mountunion /up /base\n1 mountnull /base /view\n1 open /base/f0 bc\n1 rmdir /base/d0/f0\n2 stat /base/d0/f1\n3 rename /up/f5 /view/f3\n4 link /base/d0/f5 /base/f7\n1 undelete /base/d0/f5\n2 mkdir /base/f1\n3 write 3 abcdefgh\n4 truncate /view/f3 92\n1 lstat /base/f0\n2 lseek 2 set 140\n3 read 0 126\n4 truncate /up/f2 223\n1 lstat /base/f0\n2 readdir 1\n3 readdir 3\n4 lstat /base/f4\nend\n";
+    assert_eq!(rt; text.as_slice(), want.as_slice());
+    let again = read_script(alloc, text.as_slice())?;
+    assert_eq!(rt; again.lines.len(), 24);
+    Ok(())
 }

@@ -1,6 +1,7 @@
 ghost use Rattle.std.specs.Prelude.{◌≡◌, ◌++◌, ◌<◌, IfOk, OnOk};
 ghost use Rattle.script_text.specs.declared.word.Escape.TheVariants.{Outside};
-ghost use Rattle.script_text.specs.Reading.{Gives, digit_value, bytes_from, bytes_at};
+ghost use Rattle.script_text.specs.Reading.{Gives};
+ghost use Rattle.script_text.specs.ReadWord.{digit_value, bytes_from, bytes_at};
 ghost use Rattle.script_text.specs.Word.{is_plain, hex_digit, byte_text, word_text};
 
 use crate::fault::LineFault;
@@ -96,7 +97,7 @@ fn unescaped(alloc: Global, word: &[u8]) -> Result<Vec<u8>, AllocError>
 }
 
 /// The bytes of a word that is spelled right, and some bytes of any other word.
-#[tactic(auto, unfolding(crate::specs::Reading::bytes_at))]
+#[tactic(auto, unfolding(crate::specs::ReadWord::bytes_at))]
 pub fn bytes_of(alloc: Global, word: &[u8]) -> Result<Bytes, LineFault>
     ensures { Gives (λ x. x) result (bytes_at word.now) }
 {

@@ -1,47 +1,46 @@
-use Rattle.std.proofs.Common.{◌≡◌, ℕ, ◌+◌, ◌<◌, ◌∷◌, [], List, Bool, true, false, codes, map, drop, get_or, length, sym, ap, ◌∙◌, refl, add-one, drop-cons, Bor}
-use Rattle.std.specs.Str.{bytes_eq}
+use Rattle.std.proofs.Common.{◌≡◌, ℕ, ◌+◌, ◌-◌, ◌<◌, ◌≤◌, ◌==◌, ◌∷◌, [], List, Some, None, Ok, map, drop, get_or, length, arith, sym, ap, subst, ◌∙◌, refl, add-one, drop-cons, Bor}
 use Rattle.std.proofs.lemmas.List.{take_rest, drop_all}
 use Rattle.std.proofs.lemmas.Result.{err_from_is_err_and}
-use Rattle.script_text.proofs.Loop.{goes_on, ends_badly, ends_well, goes_past_end, never_ends}
+use Rattle.call_model.specs.declared.call.Line.{Line}
+use Rattle.script_text.specs.ReadScript.{step_at, lines_at}
+use Rattle.script_text.proofs.LinesLaws.{step_some, some_left}
+use Rattle.script_text.proofs.Loop.{with_front, goes_on, ends_badly, ends_well, never_ends}
 use Rattle.script_text.proofs.reading.lines_of.Goals as goal
 
 at_line : (lines : List (Bor (List ℕ))) (i : ℕ) → i < length lines → map (λ w. w.now) (drop i lines) ≡ (get_or lines i (record { ref_ptr = (0, 0); now = [] })).now ∷ map (λ w. w.now) (drop (i + 1) lines)
 at_line lines i lt = rw (add-one, drop-cons lines i (record { ref_ptr = (0, 0); now = [] })) refl
 
-tested : (r b : Bool) (text other : List ℕ) → r ≡ bytes_eq text other → other ≡ codes "end" → r ≡ b → bytes_eq text (codes "end") ≡ b
-tested r b text other p q e = ap (bytes_eq text) (sym q) ∙ sym p ∙ e
+-- the number of the next line
+next_number : (first left : ℕ) → 0 < left → left ≤ 4096 → first + (4096 - left) + 1 ≡ first + (4096 - (left - 1))
+next_number first left some few = omega arith
 
-pub returns-then-tests_rest : goal.returns-then-tests_rest
-returns-then-tests_rest c =
-    let texts = c.args.texts.now in
-    let i = c.loop-i.i in
-    let here = rw (at_line texts i c.loop-i-test.true) at c.loop-i.invariant in
-    ends_well c.loop-i.lines.items _ _ _ (tested c.eq.result true _ c.as_slice.result.now c.eq.ensures c.as_slice.ensures c.if-eq.true) (sym (rw take_rest at c.tests_rest.ensures) ∙ c.if-tests_rest.true) here
-
-pub returns-then-eq : goal.returns-then-eq
-returns-then-eq c =
-    let texts = c.args.texts.now in
-    let i = c.loop-i.i in
-    let here = rw (at_line texts i c.loop-i-test.true) at c.loop-i.invariant in
-    goes_past_end c.loop-i.lines.items _ _ _ (tested c.eq.result true _ c.as_slice.result.now c.eq.ensures c.as_slice.ensures c.if-eq.true) (sym (rw take_rest at c.tests_rest.ensures) ∙ c.if-tests_rest.false) here
-
-pub returns-in_err-line : goal.returns-in_err-line
-returns-in_err-line c =
-    let texts = c.args.texts.now in
-    let i = c.loop-i.i in
-    let here = rw (at_line texts i c.loop-i-test.true) at c.loop-i.invariant in
+pub returns-in_err-next : goal.returns-in_err-next
+returns-in_err-next c =
+    let here = rw (at_line c.args.texts.now c.loop-i.i c.loop-i-test.true) at c.loop-i.invariant.0 in
     let p = err_from_is_err_and c.from_residual.result c.from_residual.ensures.1 in
-    rw (p.1, p.2) (ends_badly c.in_err-line.field-0.0 c.loop-i.lines.items _ _ _ (tested c.eq.result false _ c.as_slice.result.now c.eq.ensures c.as_slice.ensures c.if-eq.false) c.in_err-line.ensures here)
+    rw (p.1, p.2) (ends_badly c.in_err-next.field-0.0 _ _ _ c.loop-i.lines.items _ _ _ (rw take_rest at c.in_err-next.ensures) here)
+
+pub returns-in_default : goal.returns-in_default
+returns-in_default c =
+    let here = rw (at_line c.args.texts.now c.loop-i.i c.loop-i-test.true) at c.loop-i.invariant.0 in
+    let step = rw (take_rest, c.in_default.is) at c.in_ok-next.ensures in
+    ends_well _ _ _ c.loop-i.lines.items _ _ _ step here
+
+pub overflow_sub-left : goal.overflow_sub-left
+overflow_sub-left c =
+    let step = rw c.in-Some.is at c.in_ok-next.ensures in
+    some_left c.loop-i.left (step_some _ _ _ _ _ c.in-Some.line step).0
 
 pub loop-i-preserved : goal.loop-i-preserved
 loop-i-preserved c =
-    let texts = c.args.texts.now in
-    let i = c.loop-i.i in
-    let here = rw (at_line texts i c.loop-i-test.true) at c.loop-i.invariant in
-    rw c.in_ok-push.ensures.items (goes_on c.loop-i.lines.items _ _ c.in_ok-line.line _ (tested c.eq.result false _ c.as_slice.result.now c.eq.ensures c.as_slice.ensures c.if-eq.false) c.in_ok-line.ensures here)
+    let here = rw (at_line c.args.texts.now c.loop-i.i c.loop-i-test.true) at c.loop-i.invariant.0 in
+    let step = rw (take_rest, c.in-Some.is) at c.in_ok-next.ensures in
+    let some : 0 < c.loop-i.left = some_left c.loop-i.left (step_some _ _ _ _ _ c.in-Some.line step).0 in
+    let on = goes_on _ _ _ c.loop-i.lines.items _ _ c.in-Some.line _ step here in
+    let number = next_number c.args.first c.loop-i.left some c.loop-i.invariant.1 in
+    (rw (c.in_ok-push.ensures.items, ← number) on, omega arith)
 
 pub returns : goal.returns
 returns c =
-    let i = c.loop-i.i in
-    let past : drop i c.args.texts.now ≡ [] = drop_all i c.args.texts.now c.loop-i-test.false in
-    never_ends c.loop-i.lines.items _ (rw past at c.loop-i.invariant)
+    let past : drop c.loop-i.i c.args.texts.now ≡ [] = drop_all c.loop-i.i c.args.texts.now c.loop-i-test.false in
+    never_ends c.args.callers c.loop-i.left _ c.loop-i.lines.items _ (rw past at c.loop-i.invariant.0)

@@ -1,5 +1,5 @@
 use Rattle.std.proofs.Common.{◌≡◌, ◌++◌, drop}
-use Rattle.script_text.specs.Reading.{bytes_from}
+use Rattle.script_text.specs.ReadWord.{bytes_from}
 use Rattle.script_text.specs.declared.word.Escape.TheVariants.{Outside}
 use Rattle.script_text.proofs.word.unescaped.Given as goal
 
