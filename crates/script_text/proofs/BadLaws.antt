@@ -1,11 +1,8 @@
 -- Bytes have one bad line at most.
-use Rattle.std.proofs.Common.{◌≡◌, ℕ, ◌+◌, ◌-◌, ◌≤◌, Bool, true, false, ◌==◌, ◌⊎◌, inl, inr, List, [], ◌∷◌, codes, Option, Some, None, refl, sym, ap, subst, ◌∙◌, lit≤}
+use Rattle.std.proofs.Common.{◌≡◌, ℕ, ◌+◌, ◌≤◌, true, false, inl, inr, List, [], ◌∷◌, codes, Some, None, sym, ap, subst, ◌∙◌, lit≤}
 use Rattle.std.specs.Str.{bytes_eq}
 use Rattle.vfs_tree.specs.declared.limits.Limits.{Limits}
-use Rattle.call_model.specs.declared.call.Line.{Line}
 use Rattle.script_text.specs.Line.{line_text}
-use Rattle.script_text.specs.Fits.{FitsLine}
-use Rattle.script_text.specs.Script.{limits_text}
 use Rattle.script_text.specs.BadLine.{Place, First, Second, Later, Past, IsCallLine, IsLater, IsLimitsLine, IsLawfulAt, IsBadFrom, IsBadLine}
 use Rattle.script_text.specs.ReadScript.{limits_at}
 use Rattle.script_text.proofs.LineLaws.{line_is_no_end}

@@ -1,11 +1,9 @@
 -- A call that is read fits, and a call that fits is read again from its words, which have no space and no line end.
-use Rattle.std.proofs.Common.{◌≡◌, ℕ, ◌<◌, true, List, [], ◌∷◌, Option, Some, None, refl, subst, decimal}
+use Rattle.std.proofs.Common.{◌≡◌, ℕ, ◌<◌, true, List, [], ◌∷◌, Option, Some, refl, subst, decimal}
 use Rattle.std.proofs.lemmas.Option.{same_Some}
 use Rattle.std.specs.Fmt.{signed_decimal}
 use Rattle.call_model.specs.declared.call.Call.{Call}
 use Rattle.call_model.specs.declared.call.Call.TheVariants as call
-use Rattle.call_model.specs.declared.call.Flags.{Flags}
-use Rattle.call_model.specs.declared.call.Whence.{Whence}
 use Rattle.script_text.specs.declared.keyword.PathKeyword.{PathKeyword}
 use Rattle.script_text.specs.declared.keyword.PathKeyword.TheVariants as path
 use Rattle.script_text.specs.declared.keyword.DescriptorKeyword.{DescriptorKeyword}
@@ -18,7 +16,7 @@ use Rattle.script_text.specs.Word.{IsBytes, word_text}
 use Rattle.script_text.specs.Flags.{flags_text, whence_text}
 use Rattle.script_text.specs.Keyword.{keyword}
 use Rattle.script_text.specs.Line.{call_words}
-use Rattle.script_text.specs.Fits.{IsNumber, IsOffset, FitsCall}
+use Rattle.script_text.specs.Fits.{IsNumber, FitsCall}
 use Rattle.script_text.specs.Reading.{◌>>=◌}
 use Rattle.script_text.specs.ReadWord.{bytes_at, number_at, offset_at, flags_at, whence_at}
 use Rattle.script_text.specs.ReadCall.{one, two, three, path_call, descriptor_call, paths_call, call_at}

@@ -1,7 +1,6 @@
 -- The word of some bytes is read as these bytes, and it has no space and no line end.
 use Rattle.std.proofs.Common.{◌≡◌, ℕ, ◌+◌, ◌-◌, ◌*◌, ◌/◌, ◌%◌, ◌<◌, true, false, ◌&&◌, not, nat_lt, ◌==◌, cond, List, [], ◌∷◌, ◌++◌, Some, refl, ap, subst, ◌∙◌, arith, flat_map}
-use Rattle.std.specs.List.{AllByRecursion, list_all}
-use Rattle.std.proofs.lemmas.Bool.{and_parts, and_from, not-true, eqb-true, ltb-true, agree_below_at}
+use Rattle.std.proofs.lemmas.Bool.{and_parts, and_from, not-true, eqb-true, agree_below_at}
 use Rattle.std.proofs.lemmas.Option.{same_Some}
 use Rattle.std.proofs.lemmas.List.Folds.{list_all-append}
 use Rattle.script_text.specs.declared.word.Escape.TheVariants.{Outside, Sign, Digit}

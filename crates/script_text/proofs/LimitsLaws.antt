@@ -1,5 +1,5 @@
 -- A limits line that is read is spelled so and lawful, and lawful limits are read again from their line.
-use Rattle.std.proofs.Common.{◌≡◌, ℕ, ◌+◌, ◌*◌, ◌<◌, ◌≤◌, ◌^◌, Bool, true, false, ◌&&◌, nat_lt, nat_le, ◌==◌, cond, List, [], ◌∷◌, codes, decimal, Option, Some, None, refl, sym, ap, subst, ◌∙◌, arith, lit<}
+use Rattle.std.proofs.Common.{◌≡◌, ℕ, ◌*◌, ◌<◌, ◌≤◌, ◌^◌, Bool, true, false, ◌&&◌, nat_lt, nat_le, ◌==◌, cond, List, [], ◌∷◌, codes, decimal, Option, Some, None, refl, sym, ap, subst, ◌∙◌, arith, lit<}
 use Rattle.std.specs.List.{slice_split, join_with_byte}
 use Rattle.std.specs.Str.{bytes_eq}
 use Rattle.std.specs.Str.Parse.{AllDigits}
@@ -14,12 +14,12 @@ use Rattle.call_model.specs.declared.call.Line.{Line}
 use Rattle.script_text.specs.Keyword.{keyword, keyword_text}
 use Rattle.script_text.specs.Line.{call_words, line_words, line_text}
 use Rattle.script_text.specs.Fits.{FitsLine}
-use Rattle.script_text.specs.Script.{default_limits, limits_words, limits_text}
+use Rattle.script_text.specs.Script.{limits_words, limits_text}
 use Rattle.script_text.specs.Reading.{◌>>=◌}
 use Rattle.script_text.specs.ReadWord.{number_at}
 use Rattle.script_text.specs.ReadScript.{is_within, is_lawful, lawful_only, limits_from, limits_in, limits_at}
 use Rattle.script_text.proofs.Joined.{lacks, EachLacks, cut_joined, joined_lacks}
-use Rattle.script_text.proofs.Values.{same_bytes, bytes_are, bind_some, number_found, number_again}
+use Rattle.script_text.proofs.Values.{bytes_are, bind_some, number_found, number_again}
 use Rattle.script_text.proofs.CallLaws.{number_lacks}
 use Rattle.script_text.proofs.LineLaws.{caller_below, line_cut}
 

@@ -1,6 +1,6 @@
 -- Call lines that are read are spelled so, those that fit are read again, and where none are read, the first bad line
 -- is told.
-use Rattle.std.proofs.Common.{◌≡◌, ℕ, ◌+◌, ◌-◌, ◌<◌, ◌≤◌, Bool, true, false, ◌==◌, cond, ◌⊎◌, inl, inr, zero, suc, List, [], ◌∷◌, ◌++◌, length, map, codes, Option, Some, None, Result, Ok, Err, refl, sym, ap, ◌∙◌, arith}
+use Rattle.std.proofs.Common.{◌≡◌, ℕ, ◌+◌, ◌-◌, ◌<◌, ◌≤◌, Bool, true, false, ◌==◌, cond, ◌⊎◌, inl, inr, zero, suc, List, [], ◌∷◌, length, codes, Option, Some, None, Result, Ok, Err, refl, sym, ap, ◌∙◌, arith}
 use Rattle.std.specs.List.{AllByRecursion}
 use Rattle.std.specs.Str.{bytes_eq}
 use Rattle.std.proofs.lemmas.Bool.{eqb-true, ne_eqb}
@@ -8,9 +8,9 @@ use Rattle.call_model.specs.declared.call.Line.{Line}
 use Rattle.script_text.specs.Line.{line_text}
 use Rattle.script_text.specs.Fits.{FitsLine}
 use Rattle.script_text.specs.Script.{call_lines}
-use Rattle.script_text.specs.BadLine.{Place, First, Second, Later, Past, IsCallLine, IsLater, IsLawfulAt, IsBadFrom}
+use Rattle.script_text.specs.BadLine.{Place, Later, Past, IsLater, IsBadFrom}
 use Rattle.script_text.specs.ReadCall.{line_at}
-use Rattle.script_text.specs.ReadScript.{is_nil, is_rest, call_line, step_at, onto, with_step, lines_at}
+use Rattle.script_text.specs.ReadScript.{is_nil, is_rest, call_line, step_at, with_step, lines_at}
 use Rattle.script_text.proofs.Joined.{EachLacks}
 use Rattle.script_text.proofs.Values.{same_bytes, bytes_are}
 use Rattle.script_text.proofs.LineLaws.{line_found, line_again, line_lacks, line_is_no_end}

@@ -1,11 +1,11 @@
 -- Reading lines one after the other, as a loop does.
-use Rattle.std.proofs.Common.{◌≡◌, ℕ, ◌+◌, ◌-◌, Bool, ◌==◌, List, [], ◌∷◌, ◌++◌, Option, Some, None, Result, Ok, Err, refl, sym, ap, ◌∙◌, append_assoc}
+use Rattle.std.proofs.Common.{◌≡◌, ℕ, ◌+◌, ◌-◌, ◌==◌, List, [], ◌∷◌, ◌++◌, Some, None, Result, Ok, Err, refl, sym, ap, ◌∙◌, append_assoc}
 use Rattle.std.proofs.lemmas.List.{append-nil}
 use Rattle.call_model.specs.declared.call.Line.{Line}
 use Rattle.script_text.specs.declared.fault.ScriptFault.{ScriptFault}
 use Rattle.script_text.specs.declared.fault.ScriptFault.TheVariants as fault
 use Rattle.script_text.specs.Reading.{FailsAt}
-use Rattle.script_text.specs.ReadScript.{step_at, onto, with_step, lines_at}
+use Rattle.script_text.specs.ReadScript.{step_at, onto, lines_at}
 
 -- what was read before, and what is still read
 abbrev pub with_front : List Line → Result (List Line) ℕ → Result (List Line) ℕ

@@ -1,5 +1,5 @@
 -- A script that is read has the text, what has the text is read, and where nothing is read, the bad line is told.
-use Rattle.std.proofs.Common.{◌≡◌, ℕ, ◌+◌, ◌<◌, ◌≤◌, Bool, true, false, not, ◌&&◌, ◌==◌, cond, ◌⊎◌, inl, inr, List, [], ◌∷◌, codes, Option, Some, None, Result, Ok, Err, refl, sym, ap, subst, ◌∙◌, arith, lit≤}
+use Rattle.std.proofs.Common.{◌≡◌, ℕ, ◌≤◌, true, false, not, ◌&&◌, ◌==◌, cond, ◌⊎◌, inl, inr, List, [], ◌∷◌, codes, Option, Some, None, Result, Ok, Err, refl, sym, ap, subst, ◌∙◌, lit≤}
 use Rattle.std.specs.List.{slice_split, join_with_byte, AllByRecursion}
 use Rattle.std.specs.Str.{bytes_eq}
 use Rattle.std.proofs.lemmas.Bool.{and_parts, eqb-true}
@@ -13,7 +13,7 @@ use Rattle.script_text.specs.Fits.{FitsLine}
 use Rattle.script_text.specs.Script.{default_limits, is_default, limits_text, call_lines, short_text, whole_text, script_text, IsTextOf, HasText}
 use Rattle.script_text.specs.BadLine.{Place, First, Second, Later, Past, IsLater, IsLawfulAt, IsBadFrom}
 use Rattle.script_text.specs.ReadScript.{is_nil, limits_at, lines_at, with_limits, second_at, after_second, body_by, script_at}
-use Rattle.script_text.proofs.Joined.{EachLacks, cut_joined}
+use Rattle.script_text.proofs.Joined.{cut_joined}
 use Rattle.script_text.proofs.Values.{same_bytes, bytes_are}
 use Rattle.script_text.proofs.LimitsLaws.{limits_found, limits_again, limits_lack, line_is_no_limits, end_is_no_limits}
 use Rattle.script_text.proofs.LinesLaws.{cond_is, lines_found, lines_again, lines_bad, lines_lack}

@@ -50,48 +50,20 @@ fn bad_line(alloc: Global, bytes: &[u8]) -> Result<u32, ScriptFault> {
 #[test]
 fn each_call_is_printed_as_it_was_read(rt: HostRuntime) -> Result<(), Fail> {
     let alloc = rt.alloc();
-    let table: [&[u8]; 30] = [
-        b"1 mkdir /a",
-        b"2 rmdir /a%20b",
-        b"3 open % bcxtad",
-        b"4 close 0",
-        b"5 read 4294967295 65536",
-        b"6 pread 0 9 4294967295",
-        b"7 write 3 %00%ff",
-        b"8 pwrite 3 7 x",
-        b"9 lseek 1 end -4294967295",
-        b"10 truncate /f 1048576",
-        b"11 ftruncate 0 10",
-        b"12 stat /",
-        b"13 lstat a//b/..",
-        b"14 fstat 31",
-        b"15 readdir 2",
-        b"16 unlink /a.c",
-        b"1 rename /a /b",
-        b"1 link /a b",
-        b"1 symlink ../t l",
-        b"1 readlink l",
-        b"1 undelete /w",
-        b"1 chdir .",
-        b"1 fchdir 5",
-        b"1 statfs /%25",
-        b"1 mountmem /m",
-        b"1 mountnull / /n",
-        b"1 mountunion /up /low",
-        b"1 umount /m",
-        b"1 umountforce /m",
-        b"1 revoke /f",
-    ];
+    let texts =
+        b"1 mkdir /a\n2 rmdir /a%20b\n3 open % bcxtad\n4 close 0\n5 read 4294967295 65536\n6 pread 0 9 4294967295\n7 write 3 %00%ff\n8 pwrite 3 7 x\n9 lseek 1 end -4294967295\n10 truncate /f 1048576\n11 ftruncate 0 10\n12 stat /\n13 lstat a//b/..\n14 fstat 31\n15 readdir 2\n16 unlink /a.c\n1 rename /a /b\n1 link /a b\n1 symlink ../t l\n1 readlink l\n1 undelete /w\n1 chdir .\n1 fchdir 5\n1 statfs /%25\n1 mountmem /m\n1 mountnull / /n\n1 mountunion /up /low\n1 umount /m\n1 umountforce /m\n1 revoke /f".as_slice();
     let mut bytes = Vec::from_slice(alloc, b"vfs 1\n")?;
-    for text in table {
-        bytes.extend_from_slice(text)?;
-        bytes.push(b'\n')?;
-    }
-    bytes.extend_from_slice(b"end\n")?;
+    bytes.extend_from_slice(texts)?;
+    bytes.extend_from_slice(b"\nend\n")?;
     let script = read_script(alloc, &bytes)?;
     assert_eq!(rt; script.limits, Limits::DEFAULT);
     assert_eq!(rt; script.lines.len(), 30);
-    for (line, want) in script.lines.as_slice().iter().zip(table) {
+    for (line, want) in script
+        .lines
+        .as_slice()
+        .iter()
+        .zip(texts.split(|b| *b == b'\n'))
+    {
         let mut out = Vec::new(alloc);
         put_line(&mut out, line)?;
         assert_eq!(rt; out.as_slice(), want);
@@ -155,33 +127,9 @@ fn default_limits_are_left_out(rt: HostRuntime) -> Result<(), Fail> {
 #[test]
 fn no_words(rt: HostRuntime) -> Result<(), Fail> {
     let alloc = rt.alloc();
-    let table: [&[u8]; 24] = [
-        b"1 stat /%61",
-        b"1 stat /%2f",
-        b"1 stat /%FF",
-        b"1 stat /a%",
-        b"1 stat %%",
-        b"1 stat /%0",
-        b"1 stat /\x80",
-        b"1 stat ",
-        b"1 stat",
-        b"1 stat /a ",
-        b" 1 stat /a",
-        b"1 stat  /",
-        b"1 Stat /",
-        b"1 mkdir /a /b",
-        b"1 rename /a",
-        b"1 pread 0 1",
-        b"1 open /f",
-        b"1 open /f c",
-        b"1 open /f rw",
-        b"1 open /f rxc",
-        b"1 open /f rcc",
-        b"1 lseek 0 Set 0",
-        b"1 frob /a",
-        b"",
-    ];
-    for line in table {
+    let lines =
+        b"1 stat /%61\n1 stat /%2f\n1 stat /%FF\n1 stat /a%\n1 stat %%\n1 stat /%0\n1 stat /\x80\n1 stat \n1 stat\n1 stat /a \n 1 stat /a\n1 stat  /\n1 Stat /\n1 mkdir /a /b\n1 rename /a\n1 pread 0 1\n1 open /f\n1 open /f c\n1 open /f rw\n1 open /f rxc\n1 open /f rcc\n1 lseek 0 Set 0\n1 frob /a\n".as_slice();
+    for line in lines.split(|b| *b == b'\n') {
         let bytes = with_line(alloc, line)?;
         let bad = bad_line(alloc, &bytes)?;
         assert_eq!(rt; bad, 2);
@@ -192,29 +140,9 @@ fn no_words(rt: HostRuntime) -> Result<(), Fail> {
 #[test]
 fn no_numbers(rt: HostRuntime) -> Result<(), Fail> {
     let alloc = rt.alloc();
-    let table: [&[u8]; 20] = [
-        b"01 stat /",
-        b"0 stat /",
-        b"17 stat /",
-        b"1 close 00",
-        b"1 close 01",
-        b"1 close -1",
-        b"1 close +1",
-        b"1 close 4294967296",
-        b"1 lseek 0 set -0",
-        b"1 lseek 0 set 01",
-        b"1 lseek 0 set -4294967296",
-        b"1 lseek 0 set 4294967296",
-        b"limits 17 256 16 4096",
-        b"limits 16 257 16 4096",
-        b"limits 16 256 17 4096",
-        b"limits 16 256 16 4097",
-        b"limits 1 0 1 90",
-        b"limits 1 1 0 90",
-        b"limits 01 1 1 90",
-        b"limits 1 1 1",
-    ];
-    for line in table {
+    let lines =
+        b"01 stat /\n0 stat /\n17 stat /\n1 close 00\n1 close 01\n1 close -1\n1 close +1\n1 close 4294967296\n1 lseek 0 set -0\n1 lseek 0 set 01\n1 lseek 0 set -4294967296\n1 lseek 0 set 4294967296\nlimits 17 256 16 4096\nlimits 16 257 16 4096\nlimits 16 256 17 4096\nlimits 16 256 16 4097\nlimits 1 0 1 90\nlimits 1 1 0 90\nlimits 01 1 1 90\nlimits 1 1 1".as_slice();
+    for line in lines.split(|b| *b == b'\n') {
         let bytes = with_line(alloc, line)?;
         let bad = bad_line(alloc, &bytes)?;
         assert_eq!(rt; bad, 2);

@@ -1,10 +1,8 @@
-use Rattle.std.proofs.Common.{◌≡◌, ℕ, ◌+◌, ◌-◌, ◌<◌, ◌≤◌, ◌==◌, ◌∷◌, [], List, Some, None, Ok, map, drop, get_or, length, arith, sym, ap, subst, ◌∙◌, refl, add-one, drop-cons, Bor}
+use Rattle.std.proofs.Common.{◌≡◌, ℕ, ◌+◌, ◌-◌, ◌<◌, ◌≤◌, ◌∷◌, [], List, map, drop, get_or, length, arith, refl, add-one, drop-cons, Bor}
 use Rattle.std.proofs.lemmas.List.{take_rest, drop_all}
 use Rattle.std.proofs.lemmas.Result.{err_from_is_err_and}
-use Rattle.call_model.specs.declared.call.Line.{Line}
-use Rattle.script_text.specs.ReadScript.{step_at, lines_at}
 use Rattle.script_text.proofs.LinesLaws.{step_some, some_left}
-use Rattle.script_text.proofs.Loop.{with_front, goes_on, ends_badly, ends_well, never_ends}
+use Rattle.script_text.proofs.Loop.{goes_on, ends_badly, ends_well, never_ends}
 use Rattle.script_text.proofs.reading.lines_of.Goals as goal
 
 at_line : (lines : List (Bor (List ℕ))) (i : ℕ) → i < length lines → map (λ w. w.now) (drop i lines) ≡ (get_or lines i (record { ref_ptr = (0, 0); now = [] })).now ∷ map (λ w. w.now) (drop (i + 1) lines)
