@@ -1,5 +1,5 @@
-ghost use Rattle.std.specs.Prelude.{◌≡◌, ◌+◌, ◌*◌, ◌/◌, ◌%◌, ◌^◌, ◌<◌, ◌≤◌, IfOk, OnOk};
-ghost use Rattle.script_text.specs.Generator.{mix, pick, folded, product_64, directory, file_path, first_path, second_path, chosen_descriptor, chosen_number, chosen_bytes, for_both, for_reading, setup_call, low_row, high_row, last_row, chosen_call, gen_line, gen_lines};
+ghost use Rattle.std.specs.Prelude.{◌≡◌, ◌+◌, ◌%◌, ◌<◌, ◌≤◌, IfOk};
+ghost use Rattle.script_text.specs.Generator.{mix, pick, folded, product_64, directory, file_path, first_path, second_path, chosen_descriptor, chosen_number, chosen_bytes, setup_call, low_row, high_row, last_row, chosen_call, gen_line, gen_lines};
 ghost use Rattle.call_model.specs.declared.call.Call.TheVariants as call;
 ghost use Rattle.script_text.specs.Script.{default_limits, HasText};
 

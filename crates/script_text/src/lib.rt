@@ -1,7 +1,8 @@
 //! Scripts as text: the calls of many callers, one a line, printed and read.
 //!
 //! Words stand with one space between them, and lines end with a line feed. Each value has one spelling, so a script
-//! that is printed is read again, and a line that is read is printed as it was.
+//! that is printed is read again, and a line that is read is printed as it was. The generator makes a script of a
+//! number, and `pick` says on whom a turn falls.
 #![tactic(auto)]
 
 mod call;
