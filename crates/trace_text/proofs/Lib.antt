@@ -1,2 +1,4 @@
 pub mod Runs
 pub mod Given
+pub mod Callers
+pub mod Counts

@@ -6,3 +6,4 @@ pub mod Node
 pub mod Trees
 pub mod History
 pub mod Output
+pub mod Summary

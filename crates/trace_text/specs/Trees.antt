@@ -27,12 +27,12 @@ gives ino (node.File bytes) = false
 gives ino (node.Link target) = false
 
 -- some name of some directory of the store gives the inode number
-abbrev pub is_given : Store → ℕ → Bool
-is_given store ino = list_any (λ e. gives ino e.1) (entries store.nodes)
+abbrev pub has_name : Store → ℕ → Bool
+has_name store ino = list_any (λ e. gives ino e.1) (entries store.nodes)
 
 -- the lines of a node, if it is the root or some name gives it
 abbrev pub shown_text : Store → ℕ → Node → List ℕ
-shown_text store ino node = cond (ino == 1 || is_given store ino) (node_text ino node) []
+shown_text store ino node = cond (ino == 1 || has_name store ino) (node_text ino node) []
 
 -- the nodes of a store by inode number
 abbrev pub store_text : Store → List ℕ

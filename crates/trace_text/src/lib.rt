@@ -1,4 +1,4 @@
-//! The text of a history and of the trees of a world: what a run prints.
+//! The text of a history, of the trees of a world, and of a summary of both: what a run prints.
 #![tactic(auto)]
 
 mod history;
@@ -9,8 +9,9 @@ mod number;
 mod output;
 mod place;
 mod reply;
+mod summary;
 #[cfg(test)]
 mod tests;
 mod trees;
 
-pub use output::{print_history, print_output, print_trees};
+pub use output::{print_history, print_output, print_summary, print_trees};

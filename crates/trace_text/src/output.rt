@@ -2,8 +2,10 @@ ghost use Rattle.std.specs.Prelude.{◌≡◌, ◌++◌, OnOk, OnErr};
 ghost use Rattle.trace_text.specs.History.{history_text};
 ghost use Rattle.trace_text.specs.Trees.{trees_text};
 ghost use Rattle.trace_text.specs.Output.{output_text};
+ghost use Rattle.trace_text.specs.Summary.{summary_text};
 
 use crate::history::put_entries;
+use crate::summary::put_summary;
 use crate::trees::put_trees;
 use call_model::History;
 use std::alloc::Global;
@@ -49,5 +51,19 @@ pub fn print_output(alloc: Global, h: &History, w: &World, out: &mut Bytes) -> R
     text.extend_from_slice(b"trees\n")?;
     put_trees(alloc, &mut text, w)?;
     text.extend_from_slice(b"end\n")?;
+    out.extend_from_slice(text.as_slice())
+}
+
+/// Appends the summary of a run: how many calls it has, how many callers with a call, how many calls that were done,
+/// that were refused and that found no memory, how many inner entries, and how many entries in all; how many mounts
+/// the world that it left has; and `end`. Each stands in a line of its own.
+///
+/// The only fault is want of memory.
+pub fn print_summary(alloc: Global, h: &History, w: &World, out: &mut Bytes) -> Result<(), NoMemory>
+    ensures ok { OnOk result (out.new ≡ out.old ++ summary_text h.now.entries w.now) }
+    ensures err { OnErr result (out.new ≡ out.old) }
+{
+    let mut text = Vec::new(alloc);
+    put_summary(alloc, &mut text, h.as_slice(), w)?;
     out.extend_from_slice(text.as_slice())
 }

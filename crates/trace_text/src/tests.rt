@@ -1,4 +1,4 @@
-use crate::output::{print_history, print_output, print_trees};
+use crate::output::{print_history, print_output, print_summary, print_trees};
 use call_model::{Access, Call, Entry, Flags, History, Inner, MountWord, Ref, Reply, Whence};
 use finite_maps::NumberMap;
 use std::alloc::{AllocError, Global};
@@ -267,5 +267,52 @@ fn each_mount_and_node_has_its_lines(rt: HostRuntime) -> Result<(), Fail> {
         b"mount 2 union on m0:2 up m1:1 low m0:2\nmount 3 null on m0:3 over u2:1\nmount 10 null on m0:1 over n3(u2:1) cut\n";
     wanted.extend_from_slice(layers)?;
     assert_eq!(rt; out.as_slice(), wanted.as_slice());
+    Ok(())
+}
+
+fn refused(alloc: Global, history: &mut History, caller: u32, errno: Errno) -> Result<(), Fail> {
+    let p = bytes(alloc, b"/a")?;
+    let call = Call::Mkdir { p };
+    let reply = Reply::Fail { errno };
+    add(
+        history,
+        Entry::Call {
+            caller,
+            call,
+            reply,
+        },
+    )?;
+    Ok(())
+}
+
+#[test]
+fn an_empty_run_has_an_empty_summary(rt: HostRuntime) -> Result<(), Fail> {
+    let alloc = rt.alloc();
+    let history = History::new(alloc);
+    let world = World::start(alloc, Limits::DEFAULT)?;
+    let mut out = Bytes::new(alloc);
+    print_summary(alloc, &history, &world, &mut out)?;
+    let wanted =
+        b"calls 0\ncallers 0\nok 0\nerror 0\nnomemory 0\ninner 0\nentries 0\nmounts 1\nend\n".as_slice();
+    assert_eq!(rt; out.as_slice(), wanted);
+    Ok(())
+}
+
+#[test]
+fn a_summary_counts_each_sort(rt: HostRuntime) -> Result<(), Fail> {
+    let alloc = rt.alloc();
+    let mut history = History::new(alloc);
+    inner_entries(alloc, &mut history)?;
+    calls_with_numbers(alloc, &mut history)?;
+    refused(alloc, &mut history, 4294967295, Errno::ENOMEM)?;
+    refused(alloc, &mut history, 7, Errno::EEXIST)?;
+    refused(alloc, &mut history, 4294967295, Errno::ENOENT)?;
+    refused(alloc, &mut history, 7, Errno::ENOSPC)?;
+    let world = mounted_world(alloc)?;
+    let mut out = bytes(alloc, b"before\n")?;
+    print_summary(alloc, &history, &world, &mut out)?;
+    let wanted =
+        b"before\ncalls 8\ncallers 3\nok 4\nerror 3\nnomemory 1\ninner 5\nentries 13\nmounts 5\nend\n".as_slice();
+    assert_eq!(rt; out.as_slice(), wanted);
     Ok(())
 }

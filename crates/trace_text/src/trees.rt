@@ -2,7 +2,7 @@ ghost use Rattle.std.specs.Prelude.{◌≡◌, ℕ, ◌||◌, ◌==◌, cond, []
 ghost use Rattle.std.specs.List.{list_any};
 ghost use Rattle.std.specs.FinMap.{entries, get};
 ghost use Rattle.trace_text.specs.Node.{node_text};
-ghost use Rattle.trace_text.specs.Trees.{is_of, gives, is_given, store_text, nodes_text, tree_text, trees_text};
+ghost use Rattle.trace_text.specs.Trees.{is_of, gives, has_name, store_text, nodes_text, tree_text, trees_text};
 
 use crate::mount::put_mount;
 use crate::node::put_node;
@@ -32,7 +32,7 @@ fn add_node(given: &mut NumberMap<()>, node: &Node) -> Result<(), AllocError>
 
 /// The inode numbers that the names of a store give.
 fn given_by(alloc: Global, store: &Store) -> Result<NumberMap<()>, AllocError>
-    ensures { IfOk result (λ given. (ino : ℕ) → is_some (get given ino) ≡ is_given store.now ino) }
+    ensures { IfOk result (λ given. (ino : ℕ) → is_some (get given ino) ≡ has_name store.now ino) }
 {
     let mut given = NumberMap::new(alloc);
     for (_, node) in store.nodes.iter() {
