@@ -1,4 +1,7 @@
 pub mod Runs
 pub mod Given
+pub mod Words
 pub mod Callers
 pub mod Counts
+pub mod Replies
+pub mod Inners
