@@ -7,7 +7,8 @@ use Rattle.call_model.specs.declared.entry.Ref.TheVariants as ref
 use Rattle.call_model.specs.declared.entry.Inner.{Inner}
 use Rattle.call_model.specs.declared.entry.Inner.TheVariants as inner
 use Rattle.script_text.specs.Word.{word_text}
-use Rattle.trace_text.specs.Inner.{inner_text, FitsRef, FitsInner}
+use Rattle.trace_text.specs.Inner.{inner_text}
+use Rattle.trace_text.specs.Bounded.{IsBoundedRef, IsBoundedInner}
 use Rattle.trace_text.proofs.Words.{EachAbove, word_above, word_same, decimal_above, line_same, differ, first_is}
 
 -- the first word
@@ -48,7 +49,7 @@ inner_above (inner.CopyUp mount dir name) = (refl, (decimal_above mount, (decima
 inner_above (inner.Detach mount) = (refl, (decimal_above mount, tt))
 inner_above (inner.Doom at) = (refl, ref_above at)
 
-ref_same : (a b : Ref) → FitsRef a → FitsRef b → ref_words a ≡ ref_words b → a ≡ b
+ref_same : (a b : Ref) → IsBoundedRef a → IsBoundedRef b → ref_words a ≡ ref_words b → a ≡ b
 ref_same (ref.Fd c d) (ref.Fd k l) f g e =
     let one : c ≡ k = decimal_injective c k f.0 g.0 cc in
     let two : d ≡ l = decimal_injective d l f.1 g.1 cc in
@@ -57,7 +58,7 @@ ref_same (ref.Cwd c) (ref.Cwd k) f g e = ap (λ (x : ℕ). ref.Cwd x) (decimal_i
 ref_same (ref.Fd c d) (ref.Cwd k) f g e = absurd (differ (codes "fd") (codes "cwd") refl cc)
 ref_same (ref.Cwd c) (ref.Fd k l) f g e = absurd (differ (codes "cwd") (codes "fd") refl cc)
 
-pub inner_same : (x y : Inner) → FitsInner x → FitsInner y → inner_words x ≡ inner_words y → x ≡ y
+pub inner_same : (x y : Inner) → IsBoundedInner x → IsBoundedInner y → inner_words x ≡ inner_words y → x ≡ y
 inner_same (inner.Shadow m d n) (inner.Shadow k l o) f g e =
     let one : m ≡ k = decimal_injective m k f.0 g.0 cc in
     let two : d ≡ l = decimal_injective d l f.1 g.1 cc in
@@ -73,7 +74,7 @@ inner_same (inner.Doom a) (inner.Doom b) f g e = ap (λ (x : Ref). inner.Doom x)
 inner_same x y f g e = absurd (differ (inner_head x) (inner_head y) refl (first_is (inner_head x) (inner_head y) (inner_rest x) (inner_rest y) e))
 
 -- inner entries of the same text are the same
-pub same_inner : (x y : Inner) → FitsInner x → FitsInner y → inner_text x ≡ inner_text y → x ≡ y
+pub same_inner : (x y : Inner) → IsBoundedInner x → IsBoundedInner y → inner_text x ≡ inner_text y → x ≡ y
 same_inner x y f g e =
     let lines : join_with_byte 32 (inner_words x) ++ 10 ∷ [] ≡ join_with_byte 32 (inner_words y) ++ 10 ∷ [] = ap (λ (t : List ℕ). t ++ 10 ∷ []) (sym (inner_joined x) ∙ e ∙ inner_joined y) in
     inner_same x y f g (line_same (inner_head x) (inner_rest x) (inner_head y) (inner_rest y) [] [] (inner_above x) (inner_above y) lines).0

@@ -5,3 +5,5 @@ pub mod Callers
 pub mod Counts
 pub mod Replies
 pub mod Inners
+pub mod Calls
+pub mod Entries

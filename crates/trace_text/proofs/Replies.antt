@@ -13,7 +13,8 @@ use Rattle.call_model.specs.declared.reply.MountWord.TheVariants as mount
 use Rattle.call_model.specs.declared.reply.Reply.{Reply}
 use Rattle.call_model.specs.declared.reply.Reply.TheVariants as reply
 use Rattle.script_text.specs.Word.{word_text}
-use Rattle.trace_text.specs.Reply.{kind_text, mount_word_text, names_text, reply_text, FitsReply}
+use Rattle.trace_text.specs.Reply.{kind_text, mount_word_text, names_text, reply_text}
+use Rattle.trace_text.specs.Bounded.{IsBoundedReply}
 use Rattle.trace_text.proofs.Words.{is_above, EachAbove, word_above, word_same, decimal_above, line_same, differ, first_is, rest_is}
 
 -- the first word
@@ -141,7 +142,7 @@ errno_same ENAMETOOLONG ENAMETOOLONG e = refl
 errno_same ENOTEMPTY ENOTEMPTY e = refl
 errno_same a b e = absurd (differ (text_of a) (text_of b) refl e)
 
-pub reply_same : (r s : Reply) → FitsReply r → FitsReply s → reply_words r ≡ reply_words s → r ≡ s
+pub reply_same : (r s : Reply) → IsBoundedReply r → IsBoundedReply s → reply_words r ≡ reply_words s → r ≡ s
 reply_same reply.Done reply.Done h k e = refl
 reply_same (reply.Fd a) (reply.Fd b) h k e = ap (λ (x : ℕ). reply.Fd x) (decimal_injective a b h k cc)
 reply_same (reply.Count a) (reply.Count b) h k e = ap (λ (x : ℕ). reply.Count x) (decimal_injective a b h k cc)
@@ -161,7 +162,7 @@ reply_same (reply.Fail a) (reply.Fail b) h k e = ap (λ (x : Errno). reply.Fail 
 reply_same r s h k e = absurd (differ (reply_head r) (reply_head s) refl (first_is (reply_head r) (reply_head s) (reply_rest r) (reply_rest s) e))
 
 -- replies of the same text are the same
-pub same_reply : (r s : Reply) → FitsReply r → FitsReply s → reply_text r ≡ reply_text s → r ≡ s
+pub same_reply : (r s : Reply) → IsBoundedReply r → IsBoundedReply s → reply_text r ≡ reply_text s → r ≡ s
 same_reply r s h k e =
     let lines : join_with_byte 32 (reply_words r) ++ 10 ∷ [] ≡ join_with_byte 32 (reply_words s) ++ 10 ∷ [] = ap (λ (t : List ℕ). t ++ 10 ∷ []) (sym (reply_joined r) ∙ e ∙ reply_joined s) in
     reply_same r s h k (line_same (reply_head r) (reply_rest r) (reply_head s) (reply_rest s) [] [] (reply_above r) (reply_above s) lines).0

@@ -1,5 +1,5 @@
 -- The text of an inner entry: what a call needs to happen before it can be answered.
-use Rattle.std.specs.Prelude.{ℕ, ◌<◌, ◌^◌, List, [], ◌∷◌, ◌++◌, codes, decimal}
+use Rattle.std.specs.Prelude.{ℕ, List, [], ◌∷◌, ◌++◌, codes, decimal}
 use Rattle.call_model.specs.declared.entry.Ref.{Ref}
 use Rattle.call_model.specs.declared.entry.Ref.TheVariants as ref
 use Rattle.call_model.specs.declared.entry.Inner.{Inner}
@@ -21,15 +21,3 @@ inner_text (inner.Shadow mount dir name) = codes "shadow " ++ union_name_text mo
 inner_text (inner.CopyUp mount dir name) = codes "copyup " ++ union_name_text mount dir name
 inner_text (inner.Detach mount) = codes "detach " ++ decimal mount
 inner_text (inner.Doom at) = codes "doom " ++ ref_text at
-
--- the numbers of what is open have at most 64 bits
-abbrev pub FitsRef : Ref → Type 0
-FitsRef (ref.Fd caller fd) = (caller < 2 ^ 64) × (fd < 2 ^ 64)
-FitsRef (ref.Cwd caller) = caller < 2 ^ 64
-
--- the numbers of an inner entry have at most 64 bits
-abbrev pub FitsInner : Inner → Type 0
-FitsInner (inner.Shadow mount dir name) = (mount < 2 ^ 64) × (dir < 2 ^ 64)
-FitsInner (inner.CopyUp mount dir name) = (mount < 2 ^ 64) × (dir < 2 ^ 64)
-FitsInner (inner.Detach mount) = mount < 2 ^ 64
-FitsInner (inner.Doom at) = FitsRef at

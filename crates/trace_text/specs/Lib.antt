@@ -7,3 +7,4 @@ pub mod Trees
 pub mod History
 pub mod Output
 pub mod Summary
+pub mod Bounded

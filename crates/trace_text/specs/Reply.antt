@@ -1,5 +1,5 @@
 -- The text of a reply.
-use Rattle.std.specs.Prelude.{ℕ, ◌<◌, ◌^◌, List, [], ◌∷◌, ◌++◌, flat_map, codes, decimal}
+use Rattle.std.specs.Prelude.{ℕ, List, [], ◌∷◌, ◌++◌, flat_map, codes, decimal}
 use Rattle.vfs_tree.specs.Errno.{text_of}
 use Rattle.vfs_tree.specs.declared.node.Kind.{Kind}
 use Rattle.vfs_tree.specs.declared.node.Kind.TheVariants as kind
@@ -37,16 +37,3 @@ reply_text (reply.Names names) = codes "names" ++ names_text names
 reply_text (reply.Target bytes) = codes "target " ++ word_text bytes
 reply_text (reply.Fs mount kind) = codes "fs " ++ decimal mount ++ 32 ∷ [] ++ mount_word_text kind
 reply_text (reply.Fail errno) = codes "error " ++ text_of errno
-
--- the number of a reply, if it has one, has at most 64 bits
-abbrev pub FitsReply : Reply → Type 0
-FitsReply reply.Done = Unit {0}
-FitsReply (reply.Fd fd) = fd < 2 ^ 64
-FitsReply (reply.Count n) = n < 2 ^ 64
-FitsReply (reply.Offset at) = at < 2 ^ 64
-FitsReply (reply.Bytes bytes) = Unit {0}
-FitsReply (reply.Stat kind size) = size < 2 ^ 64
-FitsReply (reply.Names names) = Unit {0}
-FitsReply (reply.Target bytes) = Unit {0}
-FitsReply (reply.Fs mount kind) = mount < 2 ^ 64
-FitsReply (reply.Fail errno) = Unit {0}

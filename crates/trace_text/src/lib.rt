@@ -15,5 +15,5 @@ mod summary;
 mod tests;
 mod trees;
 
-pub use laws::{same_text_same_inner, same_text_same_reply};
+pub use laws::{same_text_same_history, same_text_same_inner, same_text_same_reply};
 pub use output::{print_history, print_output, print_summary, print_trees};
