@@ -1,5 +1,5 @@
 -- A call by its words: which one it is, what it has, and how many words it takes.
-use Rattle.std.proofs.Common.{◌≡◌, ℕ, ◌<◌, ◌^◌, Bool, true, false, ◌==◌, ◌||◌, List, [], ◌∷◌, ◌++◌, length, codes, decimal, Option, Some, None, refl, sym, ap, ◌∙◌, arith, pos, negsuc, suc, ℤ}
+use Rattle.std.proofs.Common.{◌≡◌, ℕ, Bool, true, false, ◌==◌, ◌||◌, List, [], ◌∷◌, ◌++◌, length, codes, Some, None, refl, sym, ap, ◌∙◌, arith, pos, negsuc, suc, ℤ}
 use Rattle.std.specs.Fmt.{signed_decimal}
 use Rattle.std.specs.List.{list_any}
 use Rattle.std.proofs.lemmas.Bool.{and_from, eq-eqb}
@@ -12,10 +12,8 @@ use Rattle.call_model.specs.declared.call.Whence.{Whence}
 use Rattle.call_model.specs.declared.call.Whence.TheVariants as whence
 use Rattle.call_model.specs.declared.call.Call.{Call}
 use Rattle.call_model.specs.declared.call.Call.TheVariants as call
-use Rattle.script_text.specs.declared.keyword.PathKeyword.TheVariants as path
 use Rattle.script_text.specs.declared.keyword.Keyword.{Keyword}
 use Rattle.script_text.specs.declared.keyword.Keyword.TheVariants as key
-use Rattle.script_text.specs.Word.{word_text}
 use Rattle.script_text.specs.Flags.{access_letter, letter_if, flag_letters, flags_text, whence_text}
 use Rattle.script_text.specs.Keyword.{keyword, keyword_text, keyword_at}
 use Rattle.script_text.specs.Line.{call_words}

@@ -1,5 +1,5 @@
 -- Counts of the entries of a history, one entry after the other.
-use Rattle.std.proofs.Common.{◌≡◌, ℕ, ◌+◌, ◌<◌, Bool, true, false, ◌||◌, ◌==◌, cond, List, [], ◌∷◌, ◌++◌, length, take, get_or, is_some, Result, Ok, Err, OnOk, refl, sym, ap, ◌∙◌, arith, append_assoc}
+use Rattle.std.proofs.Common.{◌≡◌, ℕ, ◌+◌, ◌<◌, Bool, true, false, ◌||◌, ◌==◌, List, [], ◌∷◌, ◌++◌, length, take, get_or, is_some, Result, Ok, Err, OnOk, sym, ap, ◌∙◌, arith, append_assoc}
 use mir.Val.{bool_byte}
 use Rattle.std.specs.List.{count_by, list_any}
 use Rattle.std.specs.Set.{distinct_count}

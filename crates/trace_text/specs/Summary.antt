@@ -1,5 +1,5 @@
 -- The summary of a history and of the world that it leaves.
-use Rattle.std.specs.Prelude.{◌≡◌, ℕ, Bool, true, false, ◌&&◌, not, ◌==◌, cond, List, [], ◌∷◌, ◌++◌, length, codes, decimal, is_some}
+use Rattle.std.specs.Prelude.{◌≡◌, ℕ, Bool, true, false, ◌&&◌, not, ◌==◌, List, [], ◌∷◌, ◌++◌, length, codes, decimal, is_some}
 use Rattle.std.specs.List.{count_by, list_any}
 use Rattle.std.specs.Set.{distinct_count}
 use Rattle.std.specs.FinMap.{len, get}
