@@ -1,0 +1,4 @@
+pub mod Lookups
+pub mod Pads
+pub mod Same
+pub mod Turns
