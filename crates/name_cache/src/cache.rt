@@ -9,7 +9,7 @@ ghost use Rattle.name_cache.specs.Answers.{answer};
 use crate::key::Key;
 use lru::LruCache;
 use op_vector::Vid;
-use std::alloc::{AllocError, Global};
+use std::alloc::Global;
 use std::marker::Model;
 use std::num::NonZeroUsize;
 use vfs_tree::{Name, NoMemory};

@@ -3,7 +3,7 @@ ghost use Rattle.std.specs.Option.{option_copied, option_map};
 ghost use Rattle.std.specs.List.{slice_index_or};
 ghost use Rattle.open_files.specs.Rows.{place_of, file_of, slot_of, seat_of, without_seat, HasExchanged};
 
-use std::alloc::{AllocError, Global};
+use std::alloc::Global;
 use std::mem;
 use vfs_tree::{NoMemory, Open};
 

@@ -8,7 +8,7 @@ use crate::places::{
     Seat, exchange, free_places, free_slots, lowest_free, next_taken, open_of, place_of, seat_at,
     slot_of, take_seat,
 };
-use std::alloc::{AllocError, Global};
+use std::alloc::Global;
 use std::marker::Model;
 use vfs_tree::{NoMemory, Open};
 
