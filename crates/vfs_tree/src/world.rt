@@ -1,5 +1,5 @@
 ghost use Rattle.std.specs.Prelude.{◌≡◌, ◌<◌, IfOk};
-ghost use Rattle.vfs_tree.specs.Nodes.{IsNumbered};
+ghost use Rattle.vfs_tree.specs.Nodes.{AreBelow, IsNumbered};
 ghost use Rattle.vfs_tree.specs.Start.{empty_store, root_mount, root_cwds, start_world};
 
 use crate::limits::Limits;
@@ -33,7 +33,8 @@ pub struct World {
 impl Store {
     /// A store that has its root directory alone. The only fault is want of memory.
     pub fn new(alloc: Global) -> Result<Store, AllocError>
-        ensures { IfOk result (λ store. store ≡ empty_store) }
+        ensures empty { IfOk result (λ store. store ≡ empty_store) }
+        ensures below { IfOk result (λ store. AreBelow store.nodes store.next) }
     {
         let mut nodes = NumberMap::new(alloc);
         let root = Node::Dir {
