@@ -7,8 +7,10 @@
 mod answer;
 mod edit;
 mod path;
+mod served;
 #[cfg(test)]
 mod tests;
 mod walk;
 
 pub use answer::{Answer, answer_call};
+pub use served::is_served;

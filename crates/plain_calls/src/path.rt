@@ -8,7 +8,7 @@ use std::alloc::{AllocError, Global};
 use vfs_tree::{Name, NameFault};
 
 /// The parts of the bytes between slashes.
-fn parts(alloc: Global, path: &[u8]) -> Result<Vec<&[u8]>, AllocError>
+pub fn parts(alloc: Global, path: &[u8]) -> Result<Vec<&[u8]>, AllocError>
     ensures { IfOk result (λ v. map (λ part. part.now) v.items ≡ slice_split (λ b. b == 47) path.now) }
 {
     path.split(|b| *b == b'/').collect(alloc)

@@ -3,10 +3,10 @@ ghost use Rattle.std.specs.Io.KnownBytes.{Consumes, Appends, IsAtEnd};
 ghost use Rattle.vfs_flow.specs.Faults.{Rose};
 ghost use Rattle.vfs_flow.specs.Whole.{WritesFront};
 ghost use Rattle.script_text.specs.declared.script.Script.{Script};
-ghost use Rattle.script_text.specs.Script.{HasText, script_text};
+ghost use Rattle.script_text.specs.Script.{script_text};
 ghost use Rattle.vfs_cli.specs.declared.serial.Ending.{Ending};
 ghost use Rattle.vfs_cli.specs.Words.{is_run};
-ghost use Rattle.vfs_cli.specs.Output.{Ran, NoScript};
+ghost use Rattle.vfs_cli.specs.Output.{Runs, Ran, NoScript};
 ghost use Rattle.vfs_cli.specs.Outcome.{Outcome, status_of};
 
 use crate::running::answer;
@@ -144,7 +144,7 @@ pub fn serial_main<S: Source, K: Sink>(
         × Consumes (S.left source.old) (S.left source.new) bytes × Ran bytes text
         × WritesFront (K.written sink.old) (K.written sink.new) text }
     // A script is run, unless memory runs out, where the source and the sink have no fault.
-    ensures complete { (script : Script) → HasText script → length (script_text script) < 1048577
+    ensures complete { (script : Script) → Runs script → length (script_text script) < 1048577
         → is_run (map string_bytes words.now) ≡ true
         → S.left source.old ≡ Some (script_text script)
         → (Rose (S.faults source.old) (S.faults source.new) → ⊥)
@@ -163,7 +163,7 @@ pub fn sure_main(
 ) -> Status
     ensures no_read_fault { result.code ≢ 74 }
     ensures no_write_fault { result.code ≢ 75 }
-    ensures complete { (script : Script) → HasText script → length (script_text script) < 1048577
+    ensures complete { (script : Script) → Runs script → length (script_text script) < 1048577
         → is_run (map string_bytes words.now) ≡ true → source.old ≡ script_text script
         → (result.code ≡ 0) ⊎ (result.code ≡ 12) }
 {
