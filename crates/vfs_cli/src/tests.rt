@@ -18,6 +18,11 @@ const NESTED: &[u8] =
 const NESTED_OUTPUT: &[u8] =
     b"vfs output 1\n1 mkdir /a = ok\n1 mkdir /a/b = ok\n1 stat /a/b = stat dir 0\n1 mkdir /x/y = error ENOENT\n1 mkdir / = error EEXIST\n1 stat / = stat dir 0\n1 stat /x = error ENOENT\ntrees\nmount 0 mem on -\ndir 1 1 plain\nname a 2\ndir 2 1 plain\nname b 3\ndir 3 2 plain\nend\n";
 
+const CALLERS: &[u8] = b"vfs 1\nlimits 2 1 1 144\n2 mkdir /a\n1 stat /a\n1 mkdir /%20\nend\n";
+
+const CALLERS_OUTPUT: &[u8] =
+    b"vfs output 1\n1 stat /a = error ENOENT\n1 mkdir /%20 = ok\n2 mkdir /a = ok\ntrees\nmount 0 mem on -\ndir 1 1 plain\nname %20 2\nname a 3\ndir 2 1 plain\ndir 3 1 plain\nend\n";
+
 fn words_of(alloc: Global, text: &str) -> Result<Vec<String>, AllocError> {
     let mut words = Vec::new(alloc);
     for word in text.split(' ') {
@@ -38,10 +43,13 @@ fn run_of(alloc: Global, words: &str, script: &[u8]) -> Result<(Status, SureSink
 #[test]
 fn scripts_are_run_or_refused(rt: HostRuntime) -> Result<(), Fail> {
     let alloc = rt.alloc();
-    let table: [(&[u8], u32, &[u8]); 5] = [
+    let table: [(&[u8], u32, &[u8]); 8] = [
         (EMPTY, 0, EMPTY_OUTPUT),
         (SCRIPT, 0, OUTPUT),
         (NESTED, 0, NESTED_OUTPUT),
+        (CALLERS, 0, CALLERS_OUTPUT),
+        (b"vfs 1\n1 mkdir a\nend\n", 65, b""),
+        (b"vfs 1\n1 unlink /a\nend\n", 65, b""),
         (b"vfs 1\n1 mkdir /a\n1 mkd", 65, b""),
         (b"", 65, b""),
     ];
