@@ -11,7 +11,7 @@ use Rattle.finite_maps.specs.Keys.{pair_cmp}
 use Rattle.finite_maps.proofs.EntryLaws.{pair_total, pair_exact, insert_same}
 use Rattle.vfs_tree.specs.declared.open.Open.{Open}
 use Rattle.open_files.specs.declared.places.Seat.{Seat}
-use Rattle.open_files.specs.Opens.{Opens, IsCallerFull, IsLowestFree, GetsSlot}
+use Rattle.open_files.specs.Opens.{Opens, IsCallerFull, IsLowestFree, GetsSlot, HasLawfulKeys}
 use Rattle.open_files.specs.Rows.{place_of, file_of, slot_of, seat_of, without_seat, sits, opens_in, slots_in, IsSeated, HasExchanged}
 use Rattle.open_files.proofs.Maps.{get_seat, get_without, get_at, get_past, keyed_put, keyed_none, place_of_some}
 use Rattle.open_files.proofs.Tables.{written, length_without, slot_below, slot_alone, closed, one_sits}
@@ -117,6 +117,26 @@ module _ (callers files : ℕ) (places : List (Option Seat)) (free : List ℕ) (
     | true ↦ λ within. none_now caller k slice same one (grind arith) (h k a (grind arith))
     | false ↦ λ past. subst (λ (u : Opens). get u.opens (caller, k) ≡ None) v (get_past file_of places caller k (grind arith))
   ]) refl)
+
+  -- what every table keeps
+  pub lawful_keys : HasLawfulKeys t
+  lawful_keys = λ key is. (
+      let x = a_some (get t.opens key) is in
+      let has : get (opens_in places) key ≡ Some x.0 = subst (λ (u : Opens). get u.opens key ≡ Some x.0) (sym v) x.1 in
+      let at = place_of_some file_of places key x.0 has in
+      let row = ap (λ (k : ℕ × ℕ). k.0) at.1 in
+      let col = ap (λ (k : ℕ × ℕ). k.1) at.1 in
+      let le = at.2 in
+      let n = seated.rows in
+      let to : key.0 ≤ callers = omega arith in
+      (omega arith, subst (λ (u : Opens). key.0 ≤ u.callers) v to, omega arith)
+      )
+
+  pub few_open : len t.opens ≤ t.files
+  few_open =
+      let total = seated.total in
+      let few : len (opens_in places) ≤ files = omega arith in
+      subst (λ (u : Opens). len u.opens ≤ u.files) v few
 
   -- when no descriptor is opened
   pub full : (caller : ℕ) (slice : List (Option Seat)) → slice ≡ places → 1 ≤ caller → ((k : ℕ) → k < 32 → IsSome (slice_index_or slice (place_of caller k) None)) → IsCallerFull caller t

@@ -1,5 +1,5 @@
 -- What contracts see of a table of open descriptors.
-use Rattle.std.specs.Prelude.{ℕ, ◌≡◌, ◌≢◌, ◌<◌, IsSome, Some, None, refl}
+use Rattle.std.specs.Prelude.{ℕ, ◌≡◌, ◌≢◌, ◌<◌, ◌≤◌, IsSome, Some, None, refl}
 use Rattle.std.specs.Coded.{Coded, code_by, coded×, coded_ℕ}
 use Rattle.std.specs.FinMap.{FinMap, get, insert, code}
 use Rattle.finite_maps.specs.Keys.{pair_cmp, coded_pair}
@@ -26,6 +26,10 @@ pub record IsLowestFree (caller : ℕ) (fd : ℕ) (t : Opens) : Type 0 where
   pub within : fd < 32
   pub free : get t.opens (caller, fd) ≡ None
   pub lower : (k : ℕ) → k < fd → IsSome (get t.opens (caller, k))
+
+-- the caller of each open is one of the callers, and its descriptor one of the 32
+abbrev pub HasLawfulKeys : Opens → Type 0
+HasLawfulKeys t = (key : ℕ × ℕ) → IsSome (get t.opens key) → (1 ≤ key.0) × (key.0 ≤ t.callers) × (key.1 < 32)
 
 -- no descriptor has the slot
 abbrev pub IsFreeSlot : ℕ → Opens → Type 0

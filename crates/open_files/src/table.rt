@@ -1,7 +1,7 @@
 ghost use Rattle.std.specs.Prelude.{◌≡◌, ◌↔◌, ◌<◌, ◌≤◌, ℕ, Some, None, Err, IsSome, IsNone, IfSome, IfNone, IfOk, OnErr};
 ghost use Rattle.std.specs.Option.{option_copied};
 ghost use Rattle.std.specs.FinMap as map;
-ghost use Rattle.open_files.specs.Opens.{IsCallerFull, IsLowestFree, GetsSlot, HasLimitsOf};
+ghost use Rattle.open_files.specs.Opens.{IsCallerFull, IsLowestFree, GetsSlot, HasLawfulKeys, HasLimitsOf};
 
 use crate::fault::OpenFault;
 use crate::places::{
@@ -111,6 +111,10 @@ impl OpenTable {
         ensures open { IfSome result (λ fd. IsSome (map.get self.now.opens (caller, fd))) }
         ensures lower { IfSome result (λ fd. (k : ℕ) → from ≤ k → k < fd → map.get self.now.opens (caller, k) ≡ None) }
         ensures none { IfNone result ((k : ℕ) → from ≤ k → map.get self.now.opens (caller, k) ≡ None) }
+
+        // What every table keeps.
+        ensures lawful { HasLawfulKeys self.now }
+        ensures few { map.len self.now.opens ≤ self.now.files }
     {
         next_taken(self.places.as_slice(), caller, from)
     }
