@@ -1,6 +1,6 @@
 -- Each edit keeps the nodes' numbers below the store's next one.
 use Rattle.std.proofs.Common.{◌≡◌, ℕ, ◌+◌, ◌<◌, Bool, true, false, List, refl, ap, sym, ◌∙◌, subst, arith}
-use Rattle.std.specs.Prelude.{Option, Some, None, IsSome}
+use Rattle.std.specs.Prelude.{Option, Some, None, IsSome, is_some}
 use Rattle.std.specs.Ordering.{nat_cmp}
 use Rattle.std.specs.Cmp.{nat_cmp_total}
 use Rattle.std.specs.FinMap.{FinMap, get, insert, remove}
@@ -94,3 +94,9 @@ pub unmade : (t u : Store) (nodes r : FinMap nat_cmp Node) (node : Node) → nod
 unmade t u nodes r node put is gone below =
     let back : r ≡ t.nodes = taken_back t.nodes u.nodes r t.next node (ap (λ (x : Store). x.nodes) is ∙ put) gone below in
     λ i. record { nodes = back i; next = (is i).next }
+
+-- a node that was lent
+pub lent_below : (t : Store) (n : FinMap nat_cmp Node) (k : ℕ) (v w : Node) → Some v ≡ get t.nodes k → (IsSome (get t.nodes k) → n ≡ insert t.nodes k w) → IsBelow t → AreBelow n t.next
+lent_below t n k v w was put below =
+    let there : IsSome (get t.nodes k) = ap is_some (sym was) in
+    subst (λ m. AreBelow m t.next) (sym (put there)) (below-insert t.nodes k t.next w (below k there) below)

@@ -5,7 +5,11 @@
 #![tactic(auto)]
 
 mod edit;
+mod file;
 mod node;
+#[cfg(test)]
+mod tests;
 mod undo;
 
 pub use edit::{Spot, clear_white, link, make, remove, rename};
+pub use file::{resize, write};
