@@ -1,0 +1,4 @@
+pub mod Middle
+pub mod Search
+pub mod Listing
+pub mod Edits

@@ -1,0 +1,136 @@
+ghost use Rattle.std.specs.Prelude.{◌≡◌, ◌+◌, ◌-◌, ◌^◌, ◌<◌, min, max, if◌then◌else◌, None, is_some, IfOk, OnOk, OnErr};
+ghost use Rattle.std.specs.FinMap as map;
+ghost use Rattle.mem_dir.specs.Directory.{given_names, white_names};
+
+use crate::block::Block;
+use crate::blocks;
+use std::alloc::{AllocError, Global};
+use std::marker::Model;
+use vfs_tree::{Name, NameEntry};
+
+/// The names of a directory. Contracts see the finite map of the names, `names`, how many more names have room, `spare`,
+/// and how many records were read, `reads`.
+///
+/// The records stand in byte order in blocks. A look-up, an insert and a removal cost logarithmic time in the names, and
+/// move the records of one block at most.
+#[derive(Debug, Drop)]
+pub struct Dir {
+    blocks: Vec<Block>,
+    room: Option<Block>,
+    spare: usize,
+    reads: u64,
+}
+
+impl Model for Dir {
+    ghost use Rattle.std.specs.Prelude.{vec_len, vec_capacity};
+    ghost use Rattle.std.specs.FinMap as map;
+    ghost use Rattle.mem_dir.specs.Records.{joined};
+    ghost use Rattle.mem_dir.specs.Directory.{Directory, IsReady, directory_code};
+
+    ghost Value = { Directory };
+
+    ghost coded = { directory_code };
+
+    ghost view = { λ d. record { names = map.from_entries (joined d.blocks.items); spare = d.spare; reads = d.reads } };
+
+    ghost invariant = { λ d. IsReady d.blocks.items (vec_len d.blocks) (vec_capacity d.blocks) d.room d.spare };
+}
+
+impl Dir {
+    /// A directory without names, and without room for any.
+    pub fn new(alloc: Global) -> Dir
+        ensures names { result.names ≡ map.empty }
+        ensures spare { result.spare ≡ 0 }
+        ensures reads { result.reads ≡ 0 }
+    {
+        Dir {
+            blocks: Vec::new(alloc),
+            room: None,
+            spare: 0,
+            reads: 0,
+        }
+    }
+
+    /// What the name gives, and `None` exactly where it is not there. The count of records read goes up by one, and
+    /// stands still at the greatest word.
+    pub fn find(&mut self, name: &Name) -> Option<NameEntry>
+        ensures found { result ≡ map.get self.old.names name.now }
+        ensures names { self.new.names ≡ self.old.names }
+        ensures spare { self.new.spare ≡ self.old.spare }
+        ensures reads { self.new.reads ≡ min (self.old.reads + 1) (2 ^ 64 - 1) }
+    {
+        self.reads = self.reads.saturating_add(1);
+        blocks::find(&self.blocks, name)
+    }
+
+    /// How many records were read.
+    pub fn reads(&self) -> u64
+        ensures { result ≡ self.now.reads }
+    {
+        self.reads
+    }
+
+    /// Makes room for a name, if there is none. The only fault is want of memory.
+    pub fn reserve(&mut self, alloc: Global) -> Result<(), AllocError>
+        ensures room { OnOk result (self.new.spare ≡ max self.old.spare 1) }
+        ensures names { self.new.names ≡ self.old.names }
+        ensures reads { self.new.reads ≡ self.old.reads }
+        ensures err { OnErr result (self.new ≡ self.old) }
+    {
+        blocks::fill_room(alloc, &mut self.room)?;
+        self.blocks.reserve(1)?;
+        self.spare = self.spare.max(1);
+        Ok(())
+    }
+
+    /// Lets the name give the entry, without memory. A name that is not there takes up the room of one.
+    pub fn insert(&mut self, name: Name, entry: NameEntry)
+        requires { map.get self.old.names name ≡ None → 0 < self.old.spare }
+        ensures names { self.new.names ≡ map.insert self.old.names name entry }
+        ensures spare { self.new.spare ≡ (if is_some (map.get self.old.names name) then self.old.spare else self.old.spare - 1) }
+        ensures reads { self.new.reads ≡ self.old.reads }
+    {
+        if self.blocks.is_empty() {
+            blocks::insert_first(&mut self.blocks, &mut self.room, name, entry);
+            self.spare -= 1;
+            return;
+        }
+        let place = blocks::locate(&self.blocks, &name);
+        if self.blocks[place.block].entry(place.at, &name).is_some() {
+            self.blocks[place.block].put(place.at, entry);
+        } else {
+            blocks::insert(&mut self.blocks, &mut self.room, place, name, entry);
+            self.spare -= 1;
+        }
+    }
+
+    /// Takes the name away, and answers what it gave. `None` comes exactly where it was not there.
+    pub fn remove(&mut self, name: &Name) -> Option<NameEntry>
+        ensures before { result ≡ map.get self.old.names name.now }
+        ensures names { self.new.names ≡ map.remove self.old.names name.now }
+        ensures spare { self.new.spare ≡ self.old.spare }
+        ensures reads { self.new.reads ≡ self.old.reads }
+    {
+        if self.blocks.is_empty() {
+            return None;
+        }
+        let place = blocks::locate(&self.blocks, name);
+        let entry = self.blocks[place.block].entry(place.at, name)?;
+        blocks::remove(&mut self.blocks, place);
+        Some(entry)
+    }
+
+    /// The names that give an inode, in byte order. The only fault is want of memory.
+    pub fn list(&self, alloc: Global) -> Result<Vec<Name>, AllocError>
+        ensures { IfOk result (λ names. names.items ≡ given_names self.now.names) }
+    {
+        blocks::list(alloc, &self.blocks, false)
+    }
+
+    /// The names that give a whiteout, in byte order. The only fault is want of memory.
+    pub fn list_white(&self, alloc: Global) -> Result<Vec<Name>, AllocError>
+        ensures { IfOk result (λ names. names.items ≡ white_names self.now.names) }
+    {
+        blocks::list(alloc, &self.blocks, true)
+    }
+}
