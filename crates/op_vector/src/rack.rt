@@ -1,4 +1,4 @@
-ghost use Rattle.std.specs.Prelude.{◌≡◌, ◌<◌, ◌↔◌, ◌∷◌, ◌++◌, [], length, IsTrue, IsNone, IfSome, IfNone};
+ghost use Rattle.std.specs.Prelude.{◌≡◌, ◌<◌, ◌≤◌, ◌↔◌, ◌∷◌, ◌++◌, [], length, IsTrue, IsNone, IfSome, IfNone};
 ghost use Rattle.std.specs.Option.{option_to_list};
 ghost use Rattle.op_vector.specs.Rack.{boxes_of, room_of, with_boxes, AreOf, IsByKind, IsProper, IsProperBox};
 ghost use Rattle.op_vector.specs.declared.data.VKind.{VKind};
@@ -37,9 +37,10 @@ impl<B> RackOf<B> {
         }
     }
 
-    /// The boxes of that kind's list.
+    /// The boxes of that kind's list, which has room for them.
     pub fn boxes(&self, kind: VKind) -> &[B]
-        ensures { result.now ≡ boxes_of kind self.now }
+        ensures boxes { result.now ≡ boxes_of kind self.now }
+        ensures room { length (boxes_of kind self.now) ≤ room_of kind self.now }
     {
         match kind {
             VKind::Mem => self.mem.as_slice(),

@@ -1,4 +1,4 @@
-ghost use Rattle.std.specs.Prelude.{◌≡◌, ◌<◌, ◌↔◌, ◌∷◌, ◌++◌, [], length, IsNone, IfNone};
+ghost use Rattle.std.specs.Prelude.{◌≡◌, ◌<◌, ◌≤◌, ◌↔◌, ◌∷◌, ◌++◌, [], length, IsNone, IfNone};
 ghost use Rattle.std.specs.Option.{option_to_list};
 
 use std::marker::Model;
@@ -13,13 +13,13 @@ pub struct Shelf<B> {
 }
 
 impl<B> Model for Shelf<B> {
-    ghost use Rattle.std.specs.Prelude.{ℕ, List, vec_capacity, ◌≤◌};
+    ghost use Rattle.std.specs.Prelude.{ℕ, List, length, vec_capacity, ◌≤◌};
 
     ghost Value = { List B × ℕ };
 
     ghost view = { λ s. (s.boxes.items, s.room) };
 
-    ghost invariant = { λ s. s.room ≤ vec_capacity s.boxes };
+    ghost invariant = { λ s. (length s.boxes.items ≤ s.room) × (s.room ≤ vec_capacity s.boxes) };
 }
 
 impl<B> Shelf<B> {
@@ -34,7 +34,8 @@ impl<B> Shelf<B> {
 
     /// The boxes, the one that was given last at the end.
     pub fn as_slice(&self) -> &[B]
-        ensures { result.now ≡ self.now.0 }
+        ensures boxes { result.now ≡ self.now.0 }
+        ensures room { length self.now.0 ≤ self.now.1 }
     {
         self.boxes.as_slice()
     }

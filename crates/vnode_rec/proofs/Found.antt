@@ -1,0 +1,50 @@
+-- Finding a vnode by its identity.
+use Rattle.std.proofs.Common.{ℕ, ◌≡◌, ◌≢◌, ◌<◌, ◌≤◌, ◌+◌, Bool, true, false, not, ◌==◌, ◌&&◌, cond, refl, sym, ap, ◌∙◌, subst, List, length, arith, slice_get, Option, Some, None, IsSome}
+use Rattle.std.specs.Option.{option_and_then}
+use Rattle.op_vector.specs.declared.data.Vid.{Vid}
+use Rattle.op_vector.specs.declared.data.VData.{VData}
+use Rattle.op_vector.specs.declared.rack.RackOf.{RackOf}
+use Rattle.free_list.specs.Queue.{Queue}
+use Rattle.free_list.specs.Links.{at}
+use Rattle.vnode_rec.specs.declared.slot.Slot.{Slot}
+use Rattle.vnode_rec.specs.Chains.{chain_of}
+use Rattle.vnode_rec.specs.Holders.{Held}
+use Rattle.vnode_rec.specs.Vnodes.{is_live, identity_of, identity_if_live, slot_in, HasIdentity}
+use Rattle.vnode_rec.specs.Sound.{IsSound, place_of}
+use Rattle.vnode_rec.proofs.Slots.{live_as, is_live_as}
+
+-- a number is its slot and its generation
+one_vid : (v w : Vid) → v.slot ≡ w.slot → v.generation ≡ w.generation → v ≡ w
+one_vid v w e f = ap (λ n. record { slot = n; generation = v.generation }) e ∙ ap (λ n. record { slot = w.slot; generation = n }) f
+
+module _ {X : Type 0} (slots : List (Slot X)) (held : Held) (free empty : Queue) (place : List ℕ) (linked chains : ℕ) (rack : RackOf X) (sound : IsSound slots held free empty place linked chains rack)
+    (id : VData × Option (List ℕ)) (chain : ℕ) (is_chain : chain ≡ chain_of id chains) (within : chain < chains) where
+  -- a slot of the chain has a live vnode
+  by_live : (x : Slot X) (b : Bool) → is_live x ≡ b → cond b (chain_of (identity_of x) chains) chains ≡ chain → is_live x ≡ true
+  by_live x true e h = e
+  by_live x false e h = absurd (omega (arith, h, within))
+
+  chain_live : (s : ℕ) (x : Slot X) → slice_get slots s ≡ Some x → at place s ≡ chain → is_live x ≡ true
+  chain_live s x e h = by_live x (is_live x) refl (sym (sound.listed s x e).placed ∙ h)
+
+  module _ (s : ℕ) (h : at place s ≡ chain) (i : HasIdentity id slots s) (v : Vid) (at_slot : v.slot ≡ s) (at_generation : v.generation ≡ i.0.generation) where
+    pub is_found : option_and_then identity_if_live (slot_in slots v) ≡ Some id
+    is_found =
+        let here : slice_get slots v.slot ≡ Some i.0 = ap (slice_get slots) at_slot ∙ i.1 in
+        is_live_as slots v i.0 here (chain_live s i.0 i.1 h) (sym at_generation) ∙ ap (λ (k : VData × Option (List ℕ)). Some k) i.2
+
+    pub is_only : (w : Vid) → option_and_then identity_if_live (slot_in slots w) ≡ Some id → v ≡ w
+    is_only w e =
+        let l = live_as slots w id e in
+        let same_slot : s ≡ w.slot = sound.unique s w.slot i.0 l.slot i.1 l.was (chain_live s i.0 i.1 h) l.live (i.2 ∙ sym l.same) in
+        let both : Some i.0 ≡ Some l.slot = sym i.1 ∙ (ap (slice_get slots) same_slot ∙ l.was) in
+        let one : i.0 ≡ l.slot = cc in
+        let slot_is : v.slot ≡ w.slot = at_slot ∙ same_slot in
+        let generation_is : v.generation ≡ w.generation = at_generation ∙ (ap (λ (y : Slot X). y.generation) one ∙ l.generation) in
+        one_vid v w slot_is generation_is
+
+  pub is_absent : ((s : ℕ) → at place s ≡ chain → HasIdentity id slots s → ⊥) → (w : Vid) → option_and_then identity_if_live (slot_in slots w) ≡ Some id → ⊥
+  is_absent out w e =
+      let l = live_as slots w id e in
+      let placed : at place w.slot ≡ chain = (sound.listed w.slot l.slot l.was).placed ∙ (ap (λ b. cond b (chain_of (identity_of l.slot) chains) chains) l.live ∙ (ap (λ k. chain_of k chains) l.same ∙ sym is_chain)) in
+      out w.slot placed (l.slot, l.was, l.same)

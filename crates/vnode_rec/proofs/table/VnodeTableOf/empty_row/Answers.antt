@@ -1,0 +1,13 @@
+use Rattle.std.proofs.Common.{◌≡◌, ◌+◌, ◌∙◌, ap, arith, length, length-append, [], ◌∷◌}
+use Rattle.vnode_rec.specs.Holders.{row_in}
+use Rattle.vnode_rec.proofs.Held.{left_again}
+use Rattle.vnode_rec.proofs.table.VnodeTableOf.empty_row.Goals as goal
+
+pub loop-preserved : goal.loop-preserved
+loop-preserved g c =
+    let shorter = ap length c.let_go.ensures.was ∙ length-append (row_in c.let_go.new.self.rows c.args.row) (c.let_go.result ∷ []) in
+    let count = c.loop.invariant.1 in
+    (
+      left_again c.args.self.now c.loop.self c.let_go.new.self c.args.row c.let_go.result c.loop.invariant.0 c.let_go.ensures,
+      omega (arith, shorter, count),
+    )
