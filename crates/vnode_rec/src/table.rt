@@ -1,4 +1,4 @@
-ghost use Rattle.std.specs.Prelude.{◌≡◌, ◌≢◌, ◌<◌, ◌≤◌, ◌+◌, ◌*◌, ◌^◌, ◌==◌, ◌&&◌, ◌↔◌, ℕ, [], false, true, length, take, Some, None, Option, List, All, IsNone, IfSome, IfNone, IfOk, slice_set};
+ghost use Rattle.std.specs.Prelude.{◌≡◌, ◌≢◌, ◌<◌, ◌≤◌, ◌+◌, ◌*◌, ◌^◌, ◌==◌, ◌&&◌, ◌↔◌, ℕ, [], false, true, length, take, Some, None, Option, List, All, IsNone, IsSome, IfSome, IfNone, IfOk, slice_set};
 ghost use Rattle.std.specs.Option.{option_copied, option_map};
 ghost use Rattle.op_vector.specs.declared.data.VKind.{VKind};
 ghost use Rattle.op_vector.specs.declared.data.VKind.TheVariants.{Mem, Null, Union, Dead};
@@ -189,7 +189,8 @@ impl<B: Vop> VnodeTableOf<B> {
 
     /// The vnode's data. `None` comes exactly where the vnode isn't current.
     pub fn data_of(&self, vid: Vid) -> Option<&VData>
-        ensures { option_copied result ≡ data_at self.now vid }
+        ensures data { option_copied result ≡ data_at self.now vid }
+        ensures current { IsSome result ↔ IsCurrent self.now vid }
     {
         let slot = self.current(vid)?;
         Some(&slot.vdata)
@@ -248,7 +249,8 @@ impl<B: Vop> VnodeTableOf<B> {
         requires current { IsCurrent self.old vid }
         requires there { row < length self.old.rows }
         requires room { length (row_in self.old.rows row) < 9 }
-        ensures { self.new ≡ took row vid self.old }
+        ensures took { self.new ≡ took row vid self.old }
+        ensures matched { IsMatched B.vkind self.old → IsMatched B.vkind self.new }
     {
         self.free.discard(vid.slot);
         self.holders.push(row as usize, vid);
@@ -259,7 +261,8 @@ impl<B: Vop> VnodeTableOf<B> {
         requires current { IsCurrent self.old vid }
         requires use_row { row < self.old.uses }
         requires room { length (row_in self.old.rows row) < 9 }
-        ensures { self.new ≡ took row vid self.old }
+        ensures took { self.new ≡ took row vid self.old }
+        ensures matched { IsMatched B.vkind self.old → IsMatched B.vkind self.new }
     {
         self.keep_rows();
         self.hold(row, vid);
@@ -270,7 +273,8 @@ impl<B: Vop> VnodeTableOf<B> {
         requires current { IsCurrent self.old vid }
         requires hold_row { (self.old.uses ≤ row) × (row < length self.old.rows) }
         requires room { length (row_in self.old.rows row) < 9 }
-        ensures { self.new ≡ took row vid self.old }
+        ensures took { self.new ≡ took row vid self.old }
+        ensures matched { IsMatched B.vkind self.old → IsMatched B.vkind self.new }
     {
         self.hold(row, vid);
     }
@@ -279,7 +283,8 @@ impl<B: Vop> VnodeTableOf<B> {
     fn let_go(&mut self, row: u32) -> Vid
         requires there { row < length self.old.rows }
         requires some { 0 < length (row_in self.old.rows row) }
-        ensures { LeftRow row self.old result self.new }
+        ensures after { LeftRow row self.old result self.new }
+        ensures matched { IsMatched B.vkind self.old → IsMatched B.vkind self.new }
     {
         let vid = self.holders.pop(row as usize);
         let free = self.holders.hold_count(vid.slot as usize) == 0;
@@ -306,6 +311,7 @@ impl<B: Vop> VnodeTableOf<B> {
         requires use_row { row < self.old.uses }
         requires some { 0 < length (row_in self.old.rows row) }
         ensures after { LeftRow row self.old result.vid self.new }
+        ensures matched { IsMatched B.vkind self.old → IsMatched B.vkind self.new }
         ensures unused { result.unused ≡ (occurs result.vid.slot (take self.new.uses self.new.rows) == 0) }
         ensures free { result.free ≡ (occurs result.vid.slot self.new.rows == 0) }
     {
@@ -319,6 +325,7 @@ impl<B: Vop> VnodeTableOf<B> {
         requires hold_row { (self.old.uses ≤ row) × (row < length self.old.rows) }
         requires some { 0 < length (row_in self.old.rows row) }
         ensures after { LeftRow row self.old result.vid self.new }
+        ensures matched { IsMatched B.vkind self.old → IsMatched B.vkind self.new }
         ensures unused { result.unused ≡ false }
         ensures free { result.free ≡ (occurs result.vid.slot self.new.rows == 0) }
     {
@@ -331,6 +338,7 @@ impl<B: Vop> VnodeTableOf<B> {
         requires { row < length self.old.rows }
         ensures rows { self.new.rows ≡ slice_set self.old.rows row [] }
         ensures others { self.new ≡ record self.old { rows = self.new.rows; free = self.new.free } }
+        ensures matched { IsMatched B.vkind self.old → IsMatched B.vkind self.new }
     {
         let len = self.holders.row_len(row as usize);
         for _ in 0..len {
@@ -444,6 +452,7 @@ impl<B: Vop> VnodeTableOf<B> {
         ensures matched { IsMatched B.vkind self.new }
         ensures filled { HasFilled B.vkind slot vd name result self.old self.new }
         ensures found { identity_at self.new result ≡ Some (identity vd name) }
+        ensures current { IsCurrent self.new result }
         ensures fresh { WasGiven self.old result → ⊥ }
         ensures grows { Grows self.old self.new }
         ensures rows { self.new.rows ≡ self.old.rows }

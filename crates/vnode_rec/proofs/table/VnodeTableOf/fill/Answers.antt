@@ -1,4 +1,4 @@
-use Rattle.std.proofs.Common.{ℕ, ◌≡◌, ◌<◌, ◌≤◌, ◌+◌, ◌^◌, ◌∙◌, ◌++◌, ◌∷◌, List, [], length, sym, ap, arith, get_or, slice_get, slice_set, refl, true, false, subst, Option, Some, None}
+use Rattle.std.proofs.Common.{ℕ, ◌≡◌, ◌<◌, ◌≤◌, ◌+◌, ◌^◌, ◌∙◌, ◌++◌, ◌∷◌, List, [], length, sym, ap, arith, get_or, slice_get, slice_set, refl, true, false, subst, Option, Some, None, IsSome}
 use Rattle.std.specs.Option.{option_copied, option_and_then}
 use Rattle.std.proofs.lemmas.Option.{get_or_from_slice_get, slice_get_within}
 use Rattle.op_vector.specs.declared.data.VKind.{VKind}
@@ -15,7 +15,7 @@ use Rattle.vnode_rec.specs.Identity.{identity}
 use Rattle.vnode_rec.specs.Sound.{IsSound}
 use Rattle.vnode_rec.specs.Vnodes.{Table, IsMatched, IsEmptyAt, HasNone, EachSlot, HasVector, WasGiven, Grows, identity_at, kind_of_data, is_live, identity_of}
 use Rattle.vnode_rec.specs.Effects.{HasFilled}
-use Rattle.vnode_rec.proofs.Slots.{get_same, is_live_as}
+use Rattle.vnode_rec.proofs.Slots.{get_same, is_current, is_live_as}
 use Rattle.vnode_rec.proofs.Moves.{hollow_idle, hollow_low, hollow_listed, hollow_not_free, hollow_nowhere, some_of_kind, filled_sound, filled_has}
 use Rattle.vnode_rec.proofs.Growth.{grows_by}
 use Rattle.vnode_rec.proofs.table.VnodeTableOf.fill.Goals as goal
@@ -242,6 +242,17 @@ returns-clause-found g c =
     let box : X = c.in-Some.vop in
     let new : Slot X = record { vop = Some box; vdata = c.args.vd; name = c.args.name; generation = c.index_mut-place.result.now.generation + 1; doomed = false } in
     is_live_as (slice_set f.slots.items i new) (record { slot = i; generation = c.index_mut-place.result.now.generation + 1 }) new (get_same f.slots.items i new below) refl refl
+
+pub returns-clause-current : goal.returns-clause-current
+returns-clause-current g c =
+    let f = c.self.inside in
+    let X : Type 0 = g.row.B.Denot in
+    let i = c.args.slot in
+    let em : IsEmptyAt f.slots.items i = subst (λ (t : Table X). IsEmptyAt t.slots i) (sym c.self.view_is) c.requires.empty in
+    let below : i < length f.slots.items = slice_get_within f.slots.items i em.slot em.was in
+    let new : Slot X = record { vop = Some c.in-Some.vop; vdata = c.args.vd; name = c.args.name; generation = c.index_mut-place.result.now.generation + 1; doomed = false } in
+    let v : Vid = record { slot = i; generation = c.index_mut-place.result.now.generation + 1 } in
+    subst (λ (o : Option (Slot X)). IsSome o) (sym (is_current (slice_set f.slots.items i new) v new (get_same f.slots.items i new below) refl refl)) refl
 
 pub returns-clause-fresh : goal.returns-clause-fresh
 returns-clause-fresh g c =

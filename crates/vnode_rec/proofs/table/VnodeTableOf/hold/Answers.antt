@@ -1,9 +1,10 @@
 use Rattle.std.proofs.Common.{◌≡◌, ◌<◌, ◌∙◌, sym, ap, arith, length, subst, refl, IsSome}
 use Rattle.op_vector.specs.declared.data.Vid.{Vid}
+use Rattle.op_vector.specs.declared.data.VKind.{VKind}
 use Rattle.free_list.specs.Queue.{Queue}
 use Rattle.vnode_rec.specs.Holders.{Held, row_in}
 use Rattle.vnode_rec.specs.Sound.{IsSound}
-use Rattle.vnode_rec.specs.Vnodes.{Table, IsCurrent, slot_in}
+use Rattle.vnode_rec.specs.Vnodes.{Table, IsCurrent, IsMatched, slot_in}
 use Rattle.vnode_rec.specs.Effects.{took}
 use Rattle.vnode_rec.proofs.Slots.{current_below}
 use Rattle.vnode_rec.proofs.Held.{took_sound}
@@ -38,7 +39,13 @@ invariant_of-self g c =
     let there : c.args.row < length f.holders.rows = subst (λ (t : Table g.row.B.Denot). c.args.row < length t.rows) (sym c.self.view_is) c.requires.there in
     rw (c.push.ensures, c.discard.ensures) (took_sound f.slots.items f.holders f.free f.empty f.chains.place f.chains.slots f.chains.chains f.rack c.self.invariant c.args.row c.args.vid there cur)
 
-pub returns : goal.returns
-returns g c =
+pub returns-clause-took : goal.returns-clause-took
+returns-clause-took g c =
     let f = c.self.inside in
     subst (λ (t : Table g.row.B.Denot). record { slots = f.slots.items; rows = c.push.new.self.rows; uses = c.push.new.self.uses; free = c.discard.new.self; rack = f.rack } ≡ took c.args.row c.args.vid t) c.self.view_is (rw (c.push.ensures, c.discard.ensures) refl)
+
+pub returns-clause-matched : goal.returns-clause-matched
+returns-clause-matched g c =
+    let f = c.self.inside in
+    let vkind : g.row.B.Denot → VKind = g.B.Vop.vkind in
+    subst (λ (t : Table g.row.B.Denot). IsMatched vkind t → IsMatched vkind (record { slots = f.slots.items; rows = c.push.new.self.rows; uses = c.push.new.self.uses; free = c.discard.new.self; rack = f.rack })) c.self.view_is (λ m. record { rack = m.rack; slots = m.slots })
