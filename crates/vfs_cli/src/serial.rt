@@ -3,7 +3,7 @@ ghost use Rattle.std.specs.Io.KnownBytes.{Consumes, Appends, IsAtEnd};
 ghost use Rattle.vfs_flow.specs.Faults.{Rose};
 ghost use Rattle.vfs_flow.specs.Whole.{WritesFront};
 ghost use Rattle.script_text.specs.declared.script.Script.{Script};
-ghost use Rattle.script_text.specs.Script.{script_text};
+ghost use Rattle.script_text.specs.Script.{IsTextOf};
 ghost use Rattle.vfs_cli.specs.declared.serial.Ending.{Ending};
 ghost use Rattle.vfs_cli.specs.Words.{is_run};
 ghost use Rattle.vfs_cli.specs.Output.{Runs, Ran, NoScript};
@@ -144,9 +144,9 @@ pub fn serial_main<S: Source, K: Sink>(
         × Consumes (S.left source.old) (S.left source.new) bytes × Ran bytes text
         × WritesFront (K.written sink.old) (K.written sink.new) text }
     // A script is run, unless memory runs out, where the source and the sink have no fault.
-    ensures complete { (script : Script) → Runs script → length (script_text script) < 1048577
+    ensures complete { (script : Script) (bytes : List ℕ) → Runs script → IsTextOf script bytes → length bytes < 1048577
         → is_run (map string_bytes words.now) ≡ true
-        → S.left source.old ≡ Some (script_text script)
+        → S.left source.old ≡ Some bytes
         → (Rose (S.faults source.old) (S.faults source.new) → ⊥)
         → (Rose (K.faults sink.old) (K.faults sink.new) → ⊥)
         → (result.code ≡ 0) ⊎ (result.code ≡ 12) }
@@ -163,8 +163,8 @@ pub fn sure_main(
 ) -> Status
     ensures no_read_fault { result.code ≢ 74 }
     ensures no_write_fault { result.code ≢ 75 }
-    ensures complete { (script : Script) → Runs script → length (script_text script) < 1048577
-        → is_run (map string_bytes words.now) ≡ true → source.old ≡ script_text script
+    ensures complete { (script : Script) (bytes : List ℕ) → Runs script → IsTextOf script bytes → length bytes < 1048577
+        → is_run (map string_bytes words.now) ≡ true → source.old ≡ bytes
         → (result.code ≡ 0) ⊎ (result.code ≡ 12) }
 {
     serial_main(alloc, words, source, sink)
