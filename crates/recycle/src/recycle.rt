@@ -35,7 +35,7 @@ pub fn new_vnode<B: Vop>(
     requires matched { IsMatched B.vkind table.old }
     requires room { HasRoom table.old.rows }
     requires some { vd ≢ Empty }
-    requires absent { HasNone (identity vd (option_copied name.entry)) table.old }
+    requires absent { HasNone (identity vd (option_copied name)) table.old }
     ensures matched { IsMatched B.vkind table.new }
     ensures always { name.entry ≡ None → EachSlot (λ s slot. slot.generation ≢ 2 ^ 64 - 1) table.old.slots → IsOk result }
     ensures err { OnErr result (table.new ≡ table.old) }
