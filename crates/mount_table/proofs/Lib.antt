@@ -1,0 +1,10 @@
+pub mod Covering
+pub mod Cuts
+pub mod Detached
+pub mod Entries
+pub mod Kept
+pub mod Layers
+pub mod Leavers
+pub mod Order
+pub mod Places
+pub mod Tables
