@@ -1,8 +1,7 @@
 -- Which mount of seats covers a place.
-use Rattle.std.proofs.Common.{ℕ, suc, Bool, true, false, not, ◌≡◌, ◌<◌, ◌&&◌, cond, List, [], ◌∷◌, ◌++◌, map, length, take, drop, get_or, refl, ap, sym, ◌∙◌, arith, All}
-use Rattle.std.specs.Prelude.{Option, Some, None, is_some, option_map}
+use Rattle.std.proofs.Common.{ℕ, suc, Bool, true, false, not, ◌≡◌, ◌&&◌, cond, List, [], ◌∷◌, map, take, drop, get_or, refl, ap, sym, ◌∙◌, arith, All}
+use Rattle.std.specs.Prelude.{Option, Some, is_some, option_map}
 use Rattle.std.specs.List.{find}
-use Rattle.std.specs.FinMap.{values}
 use Rattle.vfs_tree.specs.Place.{Seen}
 use Rattle.vfs_tree.specs.declared.mount.Mount.{Mount}
 use Rattle.vfs_tree.specs.Mounts.{Leaving, is_left, is_on, covers, covering}

@@ -1,9 +1,8 @@
 -- Seats that are changed one after another.
-use Rattle.std.proofs.Common.{ℕ, suc, Bool, true, false, ◌≡◌, ◌<◌, ◌≤◌, ◌+◌, ◌==◌, ◌||◌, List, [], ◌∷◌, ◌++◌, map, length, take, drop, get_or, set, refl, ap, sym, ◌∙◌, arith}
-use Rattle.std.proofs.lemmas.List.{length-drop, drop_more, take_more_set, map_more, drop-set-lt, take_all}
+use Rattle.std.proofs.Common.{ℕ, Bool, true, false, ◌≡◌, ◌<◌, ◌+◌, ◌||◌, List, [], ◌∷◌, ◌++◌, map, length, take, drop, get_or, set, refl, ap, sym, ◌∙◌, arith}
+use Rattle.std.proofs.lemmas.List.{length-drop, drop_more, take_more_set, map_more, drop-set-lt}
 use Rattle.std.proofs.Math.Seq.{map-set_same}
-use Rattle.vfs_tree.specs.declared.mount.Mount.{Mount}
-use Rattle.vfs_tree.specs.Mounts.{Mounts, layers, is_of, cut_with, stands_on}
+use Rattle.vfs_tree.specs.Mounts.{Mounts, layers, is_of}
 use Rattle.mount_table.specs.declared.seat.Seat.{Seat}
 use Rattle.mount_table.specs.Seats.{layers_of, cut_seat}
 

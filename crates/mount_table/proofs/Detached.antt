@@ -1,5 +1,5 @@
 -- Seats after a forced unmount has begun.
-use Rattle.std.proofs.Common.{ℕ, suc, Bool, true, false, ◌≡◌, ◌<◌, ◌≤◌, ◌+◌, ◌==◌, ◌||◌, cond, List, [], ◌∷◌, ◌++◌, map, length, take, drop, get_or, set, refl, ap, sym, subst, ◌∙◌, arith}
+use Rattle.std.proofs.Common.{ℕ, suc, Bool, true, false, ◌≡◌, ◌<◌, ◌+◌, cond, List, [], ◌∷◌, ◌++◌, map, length, take, drop, get_or, set, refl, ap, sym, ◌∙◌}
 use Rattle.std.specs.Prelude.{Option, Some, None, is_some, option_map}
 use Rattle.std.specs.Ordering.{nat_cmp, eq_by_cmp}
 use Rattle.std.specs.Cmp.{nat_cmp_total}
@@ -10,7 +10,7 @@ use Rattle.vfs_tree.specs.declared.mount.Mount.{Mount}
 use Rattle.vfs_tree.specs.Start.{root_mount}
 use Rattle.vfs_tree.specs.Mounts.{Mounts, layers, is_left, cut_with}
 use Rattle.mount_table.specs.declared.seat.Seat.{Seat}
-use Rattle.mount_table.specs.Seats.{numbered, mounts_in, leavers, leaver_of, leaving_in, layers_of, AreRising, AreLower, AreLowerIn, AreSlotted, IsKept, IsLeft, table_of, cut_seat}
+use Rattle.mount_table.specs.Seats.{numbered, mounts_in, leavers, leaver_of, leaving_in, AreRising, IsKept, IsLeft, table_of, cut_seat}
 use Rattle.mount_table.proofs.Order.{around}
 use Rattle.mount_table.proofs.Leavers.{left_at, once_left, leaving_left}
 

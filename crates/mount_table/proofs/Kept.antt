@@ -1,10 +1,9 @@
 -- What a table keeps, with a mount more and a mount fewer.
-use Rattle.std.proofs.Common.{ℕ, suc, Bool, true, false, ◌≡◌, ◌≢◌, ◌<◌, ◌≤◌, ◌+◌, ◌-◌, ◌==◌, cond, nat_lt, List, [], ◌∷◌, ◌++◌, map, length, take, drop, get_or, refl, ap, sym, ◌∙◌, inl, inr, arith}
+use Rattle.std.proofs.Common.{ℕ, ◌≡◌, ◌<◌, ◌≤◌, ◌+◌, ◌-◌, ◌==◌, cond, List, [], ◌∷◌, ◌++◌, map, length, take, get_or, refl, ap, sym, ◌∙◌, inl, inr, arith}
 use Rattle.std.specs.Prelude.{Option, Some, None, IsSome}
-use Rattle.std.specs.List.{All, count_by}
-use Rattle.std.specs.Ordering.{nat_cmp}
+use Rattle.std.specs.List.{All}
 use Rattle.std.specs.Cmp.{nat_cmp_total}
-use Rattle.std.specs.FinMap.{get, insert, find, len, entries, from_entries, get-from_entries, len-entries}
+use Rattle.std.specs.FinMap.{get, insert, len, from_entries, get-from_entries, len-entries}
 use Rattle.std.proofs.lemmas.List.{map-append, append-nil, length-append, length-map, take_more, take_all}
 use Rattle.std.proofs.lemmas.List.Sums.{sum_by-append}
 use Rattle.std.proofs.lemmas.Bool.{cases_lt, false≢true}
@@ -14,7 +13,7 @@ use Rattle.vfs_tree.specs.declared.mount.MountKind.{MountKind}
 use Rattle.vfs_tree.specs.Mounts.{layers}
 use Rattle.mount_table.specs.Table.{HasLayers, new_mount, with_mount}
 use Rattle.mount_table.specs.declared.seat.Seat.{Seat}
-use Rattle.mount_table.specs.Seats.{numbered, mounts_in, leavers, leaving_in, table_of, AreRising, AreLower, AreLowerIn, layers_of, Once, occurs, AreSlotted, IsKept}
+use Rattle.mount_table.specs.Seats.{numbered, mounts_in, leavers, leaving_in, table_of, AreRising, AreLowerIn, layers_of, occurs, AreSlotted, IsKept}
 use Rattle.mount_table.proofs.Order.{seat_in, high_none, entries_of, rising_with, rising_without}
 use Rattle.mount_table.proofs.Leavers.{leavers_staying, once_out}
 

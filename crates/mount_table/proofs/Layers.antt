@@ -1,12 +1,11 @@
 -- On which mounts a mount stands, by the layers of seats.
-use Rattle.std.proofs.Common.{ℕ, zero, suc, Bool, true, false, ◌≡◌, ◌≢◌, ◌<◌, ◌≤◌, ◌==◌, ◌||◌, List, [], ◌∷◌, ◌++◌, map, length, get_or, refl, ap, sym, ◌∙◌, inl, inr, arith, All}
+use Rattle.std.proofs.Common.{ℕ, zero, suc, Bool, true, false, ◌≡◌, ◌≢◌, ◌<◌, ◌==◌, ◌||◌, List, [], ◌∷◌, get_or, refl, ap, sym, ◌∙◌, inl, inr, arith, All}
 use Rattle.std.specs.Prelude.{Option, Some, None}
 use Rattle.std.specs.List.{list_any}
-use Rattle.std.specs.Ordering.{nat_cmp, eq_by_cmp}
+use Rattle.std.specs.Ordering.{nat_cmp}
 use Rattle.std.specs.Cmp.{nat_cmp_total}
 use Rattle.std.specs.FinMap.{get, find, get-from_entries}
 use Rattle.std.proofs.lemmas.Bool.{cases_eq}
-use Rattle.vfs_tree.specs.declared.mount.Mount.{Mount}
 use Rattle.vfs_tree.specs.declared.mount.MountKind.{MountKind}
 use Rattle.vfs_tree.specs.Mounts.{Mounts, layers, layers_at, stands_within, stands_on}
 use Rattle.mount_table.specs.declared.seat.Seat.{Seat}

@@ -1,16 +1,14 @@
 -- Which callers are leaving the mounts of seats.
-use Rattle.std.proofs.Common.{ℕ, suc, Bool, true, false, ◌≡◌, ◌≢◌, ◌<◌, ◌≤◌, ◌+◌, ◌==◌, ◌||◌, cond, List, [], ◌∷◌, ◌++◌, map, length, take, drop, get_or, refl, ap, sym, ◌∙◌, inl, inr, ◌⊎◌, arith}
+use Rattle.std.proofs.Common.{ℕ, Bool, true, false, ◌≡◌, ◌≢◌, ◌<◌, ◌≤◌, ◌+◌, ◌==◌, ◌||◌, List, [], ◌∷◌, ◌++◌, refl, ap, sym, ◌∙◌, inl, inr, ◌⊎◌, arith}
 use Rattle.std.specs.Prelude.{Option, Some, None, is_some}
 use Rattle.std.specs.List.{list_any}
-use Rattle.std.specs.Ordering.{nat_cmp, eq_by_cmp}
-use Rattle.std.specs.Cmp.{nat_cmp_total}
-use Rattle.std.specs.FinMap.{insert, remove, get, values, from_entries, find, get-from_entries}
+use Rattle.std.specs.Ordering.{nat_cmp}
+use Rattle.std.specs.FinMap.{insert, remove, from_entries, find}
 use Rattle.std.proofs.lemmas.Bool.{cases_eq}
 use Rattle.vfs_tree.specs.Mounts.{is_left}
 use Rattle.mount_table.specs.declared.seat.Seat.{Seat}
 use Rattle.mount_table.specs.Seats.{leaver_of, leavers, leaving_in, AreRising, Once}
-use Rattle.mount_table.proofs.Entries.{key_yes, key_no, head_none, none_append, inserted, taken_out, once_without, once_with, any_value}
-use Rattle.mount_table.proofs.Order.{rising_bounds}
+use Rattle.mount_table.proofs.Entries.{key_yes, key_no, head_none, inserted, taken_out, once_without, once_with, any_value}
 
 -- ---- one seat among others
 

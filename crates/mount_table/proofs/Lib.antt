@@ -6,5 +6,4 @@ pub mod Kept
 pub mod Layers
 pub mod Leavers
 pub mod Order
-pub mod Places
 pub mod Tables

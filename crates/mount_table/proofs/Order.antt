@@ -1,17 +1,14 @@
 -- Seats in the order of their numbers.
-use Rattle.std.proofs.Common.{ℕ, suc, zero, Bool, true, ◌≡◌, ◌≢◌, ◌<◌, ◌≤◌, ◌+◌, List, [], ◌∷◌, ◌++◌, map, length, take, drop, get_or, set, refl, ap, sym, ◌∙◌, inl, inr, arith, All}
-use Rattle.std.specs.Prelude.{Option, Some, None}
+use Rattle.std.proofs.Common.{ℕ, suc, zero, ◌≡◌, ◌≢◌, ◌<◌, ◌≤◌, ◌+◌, List, [], ◌∷◌, ◌++◌, map, length, take, drop, get_or, refl, ap, sym, ◌∙◌, arith, All}
+use Rattle.std.specs.Prelude.{Some, None}
 use Rattle.std.proofs.lemmas.List.{map-append, append-nil, set_split, set-get_or, length-take, get_or-take}
-use Rattle.std.specs.declared.cmp.Ordering.{Ordering}
-use Rattle.std.specs.declared.cmp.Ordering.TheVariants.{Less, Equal, Greater}
-use Rattle.std.specs.Ordering.{nat_cmp, eq_by_cmp}
+use Rattle.std.specs.Ordering.{nat_cmp}
 use Rattle.std.specs.Cmp.{nat_cmp_total}
-use Rattle.std.specs.FinMap.{insert, remove, get, entries, values, from_entries, find, put, get-from_entries, entries-insert}
+use Rattle.std.specs.FinMap.{insert, remove, entries, values, from_entries, find, put, entries-insert}
 use Rattle.std.specs.FinMap.Entries.{by_order}
-use Rattle.std.proofs.lemmas.Bool.{cases_eq}
 use Rattle.mount_table.specs.declared.seat.Seat.{Seat}
 use Rattle.mount_table.specs.Seats.{numbered, mounts_in, AreRising, IsPlace}
-use Rattle.mount_table.proofs.Entries.{key_yes, key_no, key_less, none_cons, none_append, inserted, taken_out, entries-empty}
+use Rattle.mount_table.proofs.Entries.{key_yes, key_no, key_less, none_cons, inserted, taken_out, entries-empty}
 
 -- a list around one of its elements
 pub around : {X : Type 0} (xs : List X) (i : ℕ) (d : X) → i < length xs → take i xs ++ get_or xs i d ∷ drop (suc i) xs ≡ xs

@@ -1,16 +1,15 @@
 -- What the calls of a table read of its seats, and the seats that each leaves.
-use Rattle.std.proofs.Common.{ℕ, zero, suc, Bool, true, false, ◌≡◌, ◌≢◌, ◌<◌, ◌≤◌, ◌+◌, ◌-◌, cond, nat_lt, ◌==◌, List, [], ◌∷◌, ◌++◌, map, length, take, drop, get_or, refl, ap, sym, ◌∙◌, inl, inr, ◌⊎◌, arith, All}
+use Rattle.std.proofs.Common.{ℕ, suc, Bool, true, false, ◌≡◌, ◌≢◌, ◌<◌, ◌≤◌, ◌+◌, cond, nat_lt, ◌==◌, List, [], ◌∷◌, ◌++◌, map, take, drop, get_or, refl, ap, sym, ◌∙◌, inl, inr, arith, All}
 use Rattle.std.specs.Prelude.{Option, Some, None, is_some}
-use Rattle.std.specs.Ordering.{nat_cmp, eq_by_cmp}
+use Rattle.std.specs.Ordering.{nat_cmp}
 use Rattle.std.specs.Cmp.{nat_cmp_total}
-use Rattle.std.specs.FinMap.{get, insert, remove, find, from_entries, get-from_entries}
+use Rattle.std.specs.FinMap.{get, remove, find, from_entries, get-from_entries}
 use Rattle.std.proofs.lemmas.List.{map-append}
-use Rattle.std.proofs.lemmas.List.Sums.{sum_by-append}
-use Rattle.std.proofs.lemmas.Bool.{cases_eq, cases_lt}
+use Rattle.std.proofs.lemmas.Bool.{cases_eq}
 use Rattle.std.proofs.lemmas.Bool.Decides.{nat_tests}
 use Rattle.vfs_tree.specs.Mounts.{is_left}
 use Rattle.mount_table.specs.declared.seat.Seat.{Seat}
-use Rattle.mount_table.specs.Seats.{numbered, mounts_in, leavers, leaving_in, table_of, AreRising, AreSlotted, Once, occurs, IsKept, IsPlace}
+use Rattle.mount_table.specs.Seats.{numbered, mounts_in, leavers, leaving_in, table_of, AreRising, Once, occurs, IsKept, IsPlace}
 use Rattle.mount_table.proofs.Entries.{key_yes, key_no, find_among}
 use Rattle.mount_table.proofs.Order.{around, before_none, found_at, none_at, seat_out}
 use Rattle.mount_table.proofs.Leavers.{left_at, leaver_is, leaving_out, staying_out}

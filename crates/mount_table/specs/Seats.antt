@@ -1,5 +1,5 @@
 -- How the table is kept: a seat for each mount, in the order of their numbers.
-use Rattle.std.specs.Prelude.{ℕ, ◌+◌, Bool, false, not, ◌&&◌, ◌||◌, ◌==◌, cond, nat_lt, ◌≡◌, ◌≢◌, ◌<◌, ◌≤◌, List, [], ◌∷◌, length, Option, Some, None, is_some, map, take, slice_set, slice_index_or, All}
+use Rattle.std.specs.Prelude.{ℕ, ◌+◌, Bool, not, ◌&&◌, ◌==◌, cond, nat_lt, ◌≡◌, ◌≢◌, ◌<◌, ◌≤◌, List, [], ◌∷◌, length, Option, Some, None, is_some, map, take, slice_set, slice_index_or, All}
 use Rattle.std.specs.List.{HoldsAt, count_by}
 use Rattle.std.specs.Ordering.{nat_cmp}
 use Rattle.std.specs.FinMap.{find, from_entries}

@@ -1,6 +1,6 @@
-ghost use Rattle.std.specs.Prelude.{◌≡◌, ◌≢◌, ◌<◌, length, slice_index_or, slice_get, map, option_map, IsSome, All, MatchOption};
+ghost use Rattle.std.specs.Prelude.{◌≡◌, ◌≢◌, ◌==◌, ◌<◌, length, slice_index_or, slice_get, map, option_map, IsSome, All, MatchOption};
 ghost use Rattle.std.specs.Option.{option_copied};
-ghost use Rattle.std.specs.List.{find, remove};
+ghost use Rattle.std.specs.List.{find, list_any, remove};
 ghost use Rattle.std.specs.Ordering.{nat_cmp};
 ghost use Rattle.std.specs.FinMap as entries;
 ghost use Rattle.vfs_tree.specs.Mounts.{stands_on, is_of};
@@ -60,6 +60,18 @@ pub fn left_by(seats: &[Seat], caller: u32) -> Option<u32>
         }
     }
     None
+}
+
+/// Whether some caller is leaving the mount of that number.
+pub fn is_left(seats: &[Seat], number: u32) -> bool
+    ensures { result ≡ list_any (λ entry. entry.1 == number) (leavers seats.now) }
+{
+    for seat in seats {
+        if seat.left_by.is_some() && seat.mount.number == number {
+            return true;
+        }
+    }
+    false
 }
 
 /// Whether the mount of a seat covers the place.

@@ -6,7 +6,9 @@ ghost use Rattle.mount_table.specs.Table.{start_table, with_mount, HasLayers};
 ghost use Rattle.mount_table.specs.declared.fault.AddFault.TheVariants as fault;
 
 use crate::fault::AddFault;
-use crate::seat::{Seat, covering, found, leave, left_by, place_of, seat_at, stands_on, take_out};
+use crate::seat::{
+    Seat, covering, found, is_left, leave, left_by, place_of, seat_at, stands_on, take_out,
+};
 use std::alloc::{AllocError, Global};
 use std::marker::Model;
 use vfs_tree::{Mount, MountKind, Place};
@@ -150,6 +152,13 @@ impl MountTable {
         left_by(self.seats.as_slice(), caller)
     }
 
+    /// Whether some caller is leaving the mount of that number.
+    pub fn is_left(&self, number: u32) -> bool
+        ensures { result ≡ is_left self.now.leaving number }
+    {
+        is_left(self.seats.as_slice(), number)
+    }
+
     /// The slot of a mount that is there: a number that it keeps, and that no other mount has meanwhile.
     pub fn slot(&self, number: u32) -> u32
         requires { IsSome (entries.get self.now.mounts number) }
@@ -204,6 +213,47 @@ mod tests {
         assert!(rt; full == Err(AddFault::Full));
         assert!(rt; table.next_number() == 2);
         assert!(rt; table.at(1).is_some() && table.at(2).is_none());
+        Ok(())
+    }
+
+    // A null mount of the mount before, on the directory with that inode.
+    fn add_view(table: &mut MountTable, layer: u32, on: u32) -> bool {
+        if table.get(layer).is_none() {
+            return false;
+        }
+        let kind = MountKind::Null {
+            layer: Place::mem(layer, 1),
+        };
+        table.add(kind, Place::mem(0, on)).is_ok()
+    }
+
+    fn detach(table: &mut MountTable, number: u32, caller: u32) -> bool {
+        if table.get(number).is_none() || table.leaving(caller).is_some() || table.is_left(number) {
+            return false;
+        }
+        table.detach(number, caller);
+        true
+    }
+
+    fn is_cut(table: &MountTable, number: u32) -> Option<bool> {
+        table.get(number).map(|mount| mount.cut)
+    }
+
+    #[test]
+    fn a_mount_is_cut_with_those_over_it(rt: HostRuntime) -> Result<(), Fail> {
+        let mut table = MountTable::new(rt.alloc(), 5)?;
+        assert!(rt; table.add(MountKind::Mem, Place::mem(0, 2)) == Ok(1));
+        assert!(rt; add_view(&mut table, 1, 3));
+        assert!(rt; add_view(&mut table, 2, 4));
+        assert!(rt; add_view(&mut table, 0, 5));
+        assert!(rt; table.stands_on(3, 1) && !table.stands_on(1, 3) && !table.stands_on(4, 1));
+        assert!(rt; detach(&mut table, 1, 2));
+        assert!(rt; table.leaving(2) == Some(1) && table.leaving(1).is_none());
+        assert!(rt; table.top_on(&Place::mem(0, 2)).is_none());
+        assert!(rt; table.top_on(&Place::mem(0, 3)) == Some(2));
+        for (number, cut) in [(0, false), (1, true), (2, true), (3, true), (4, false)] {
+            assert_eq!(rt; is_cut(&table, number), Some(cut));
+        }
         Ok(())
     }
 }

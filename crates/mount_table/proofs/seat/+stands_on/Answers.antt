@@ -1,4 +1,4 @@
-use Rattle.std.proofs.Common.{ℕ, ◌≡◌, ◌<◌, ◌||◌, ◌==◌, ◌∷◌, [], false, ◌∙◌, ap, sym, get_or, arith}
+use Rattle.std.proofs.Common.{◌||◌, ◌==◌, ◌∷◌, [], false, ◌∙◌, ap, sym, arith}
 use Rattle.std.specs.List.{list_any}
 use Rattle.vfs_tree.specs.Place.{mount_of}
 use Rattle.vfs_tree.specs.Mounts.{stands_on}

@@ -2,7 +2,7 @@ use Rattle.std.proofs.Common.{◌≡◌, ◌<◌, ◌+◌, ◌||◌, ◌==◌, t
 use Rattle.std.proofs.lemmas.List.{get_or_default, set-get_or}
 use Rattle.vfs_tree.specs.Mounts.{is_of}
 use Rattle.mount_table.specs.declared.seat.Seat.{Seat}
-use Rattle.mount_table.specs.Seats.{mounts_in, layers_of, cut_seat}
+use Rattle.mount_table.specs.Seats.{mounts_in, cut_seat}
 use Rattle.mount_table.proofs.Cuts.{changed_more, cut_is, cut_not, layers_cut}
 use Rattle.mount_table.proofs.Layers.{stands_alike}
 use Rattle.mount_table.proofs.seat.cut_all.Goals as goal

@@ -1,13 +1,10 @@
-use Rattle.std.proofs.Common.{ℕ, ◌≡◌, ◌≢◌, ◌<◌, ◌+◌, ◌-◌, ◌++◌, ◌∷◌, [], false, ◌∙◌, ap, sym, subst, refl, length, take, get_or, map, vec_capacity, arith}
-use Rattle.std.specs.Prelude.{Some, None, Err}
+use Rattle.std.proofs.Common.{◌≡◌, ◌≢◌, ◌<◌, ◌-◌, ◌∙◌, ap, sym, subst, refl, length, take, get_or, map, vec_capacity, arith}
+use Rattle.std.specs.Prelude.{None}
 use Rattle.std.specs.FinMap.{len}
 use Rattle.std.proofs.lemmas.Grind.{common_steps}
 use Rattle.std.proofs.lemmas.List.{length-map}
-use Rattle.vfs_tree.specs.Mounts.{layers}
-use Rattle.mount_table.specs.declared.fault.AddFault.TheVariants as fault
 use Rattle.mount_table.specs.declared.seat.Seat.{Seat}
 use Rattle.mount_table.specs.Table.{Table, HasLayers, new_mount}
-use Rattle.mount_table.specs.Seats.{mounts_in}
 use Rattle.mount_table.proofs.Kept.{len_of, layers_below, last_split, kept_with, table_with}
 use Rattle.mount_table.proofs.table.MountTable.add.Goals as goal
 
