@@ -3,5 +3,7 @@
 #![tactic(auto)]
 
 mod recycle;
+#[cfg(test)]
+mod tests;
 
 pub use recycle::new_vnode;

@@ -99,27 +99,27 @@ module _ {X : Type 0} (slots : List (Slot X)) (i : ℕ) (old new : Slot X) (was 
           current = current;
           listed = λ s x e. elim (at_set slots i new s x h e) [
             | inl q ↦ subst (λ k. IsListed held.rows free'.queue empty'.queue place' chains k x) (sym q.0) (subst (λ (y : Slot X). IsListed held.rows free'.queue empty'.queue place' chains i y) (sym q.1) (record {
-                is_free = free_here;
-                is_empty = empty_here;
-                low = low;
-                placed = place_here;
-              }))
+              is_free = free_here;
+              is_empty = empty_here;
+              low = low;
+              placed = place_here;
+            }))
             | inr q ↦ (let l = sound.listed s x q.1 in record {
-                is_free = free_others s q.0 ∙ l.is_free;
-                is_empty = empty_others s q.0 ∙ l.is_empty;
-                low = l.low;
-                placed = place_others s q.0 ∙ l.placed;
-              })
+              is_free = free_others s q.0 ∙ l.is_free;
+              is_empty = empty_others s q.0 ∙ l.is_empty;
+              low = l.low;
+              placed = place_others s q.0 ∙ l.placed;
+            })
           ];
           unique = λ s t x y es et ls lt same. elim (at_set slots i new s x h es) [
             | inl p ↦ elim (at_set slots i new t y h et) [
-                | inl q ↦ p.0 ∙ sym q.0
-                | inr q ↦ absurd (fresh (subst (λ (z : Slot X). is_live z ≡ true) p.1 ls) t y q.0 q.1 lt (sym same ∙ ap (λ (z : Slot X). identity_of z) p.1))
-              ]
+              | inl q ↦ p.0 ∙ sym q.0
+              | inr q ↦ absurd (fresh (subst (λ (z : Slot X). is_live z ≡ true) p.1 ls) t y q.0 q.1 lt (sym same ∙ ap (λ (z : Slot X). identity_of z) p.1))
+            ]
             | inr p ↦ elim (at_set slots i new t y h et) [
-                | inl q ↦ absurd (fresh (subst (λ (z : Slot X). is_live z ≡ true) q.1 lt) s x p.0 p.1 ls (same ∙ ap (λ (z : Slot X). identity_of z) q.1))
-                | inr q ↦ sound.unique s t x y p.1 q.1 ls lt same
-              ]
+              | inl q ↦ absurd (fresh (subst (λ (z : Slot X). is_live z ≡ true) q.1 lt) s x p.0 p.1 ls (same ∙ ap (λ (z : Slot X). identity_of z) q.1))
+              | inr q ↦ sound.unique s t x y p.1 q.1 ls lt same
+            ]
           ];
           supplied = supplied;
         }

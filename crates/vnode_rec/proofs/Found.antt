@@ -24,7 +24,7 @@ module _ {X : Type 0} (slots : List (Slot X)) (held : Held) (free empty : Queue)
   by_live x true e h = e
   by_live x false e h = absurd (omega (arith, h, within))
 
-  chain_live : (s : ℕ) (x : Slot X) → slice_get slots s ≡ Some x → at place s ≡ chain → is_live x ≡ true
+  pub chain_live : (s : ℕ) (x : Slot X) → slice_get slots s ≡ Some x → at place s ≡ chain → is_live x ≡ true
   chain_live s x e h = by_live x (is_live x) refl (sym (sound.listed s x e).placed ∙ h)
 
   module _ (s : ℕ) (h : at place s ≡ chain) (i : HasIdentity id slots s) (v : Vid) (at_slot : v.slot ≡ s) (at_generation : v.generation ≡ i.0.generation) where
@@ -43,8 +43,11 @@ module _ {X : Type 0} (slots : List (Slot X)) (held : Held) (free empty : Queue)
         let generation_is : v.generation ≡ w.generation = at_generation ∙ (ap (λ (y : Slot X). y.generation) one ∙ l.generation) in
         one_vid v w slot_is generation_is
 
+  -- no slot has the identity where none of the chain has
+  pub no_slot : ((s : ℕ) → at place s ≡ chain → HasIdentity id slots s → ⊥) → (s : ℕ) (x : Slot X) → slice_get slots s ≡ Some x → is_live x ≡ true → identity_of x ≡ id → ⊥
+  no_slot out s x e live same = out s ((sound.listed s x e).placed ∙ (ap (λ b. cond b (chain_of (identity_of x) chains) chains) live ∙ (ap (λ k. chain_of k chains) same ∙ sym is_chain))) (x, e, same)
+
   pub is_absent : ((s : ℕ) → at place s ≡ chain → HasIdentity id slots s → ⊥) → (w : Vid) → option_and_then identity_if_live (slot_in slots w) ≡ Some id → ⊥
   is_absent out w e =
       let l = live_as slots w id e in
-      let placed : at place w.slot ≡ chain = (sound.listed w.slot l.slot l.was).placed ∙ (ap (λ b. cond b (chain_of (identity_of l.slot) chains) chains) l.live ∙ (ap (λ k. chain_of k chains) l.same ∙ sym is_chain)) in
-      out w.slot placed (l.slot, l.was, l.same)
+      no_slot out w.slot l.slot l.was l.live l.same

@@ -166,9 +166,9 @@ module _ {X : Type 0} (slots : List (Slot X)) (held : Held) (free empty : Queue)
             was = was ∙ ap (λ (w : List Vid). w ++ v ∷ []) (sym kept);
             current = popped_current;
             now =
-              ap (λ (rows : List (List Vid)). record { slots = slots; rows = rows; uses = held'.uses; free = free'; rack = rack }) (rows_are ∙ ap (slice_set held.rows i) (sym kept))
-              ∙ (ap (λ (uses : ℕ). record { slots = slots; rows = slice_set held.rows i (row_in held'.rows i); uses = uses; free = free'; rack = rack }) (ap (λ (h : Held). h.uses) is)
-              ∙ ap (λ (q : Queue). record { slots = slots; rows = slice_set held.rows i (row_in held'.rows i); uses = held.uses; free = q; rack = rack }) queued_is);
+                ap (λ (rows : List (List Vid)). record { slots = slots; rows = rows; uses = held'.uses; free = free'; rack = rack }) (rows_are ∙ ap (slice_set held.rows i) (sym kept))
+                ∙ (ap (λ (uses : ℕ). record { slots = slots; rows = slice_set held.rows i (row_in held'.rows i); uses = uses; free = free'; rack = rack }) (ap (λ (h : Held). h.uses) is)
+                ∙ ap (λ (q : Queue). record { slots = slots; rows = slice_set held.rows i (row_in held'.rows i); uses = held.uses; free = q; rack = rack }) queued_is);
           }
 
 -- rows that lose one vnode after another
@@ -180,5 +180,5 @@ module _ {X : Type 0} (t s u : Table X) (row : ℕ) (v : Vid) where
       let uses : u.uses ≡ t.uses = ap (λ (w : Table X). w.uses) left.now ∙ ap (λ (w : Table X). w.uses) before in
       let rack : u.rack ≡ t.rack = ap (λ (w : Table X). w.rack) left.now ∙ ap (λ (w : Table X). w.rack) before in
       let rows : u.rows ≡ slice_set t.rows row (row_in u.rows row) =
-        ap (λ (w : Table X). w.rows) left.now ∙ (ap (λ (w : List (List Vid)). slice_set w row (row_in u.rows row)) (ap (λ (w : Table X). w.rows) before) ∙ set-set t.rows row (row_in s.rows row) (row_in u.rows row)) in
+      ap (λ (w : Table X). w.rows) left.now ∙ (ap (λ (w : List (List Vid)). slice_set w row (row_in u.rows row)) (ap (λ (w : Table X). w.rows) before) ∙ set-set t.rows row (row_in s.rows row) (row_in u.rows row)) in
       ap (λ (w : List (Slot X)). make w u.rows u.uses u.rack) slots ∙ (ap (λ (w : List (List Vid)). make t.slots w u.uses u.rack) rows ∙ (ap (λ w. make t.slots (slice_set t.rows row (row_in u.rows row)) w u.rack) uses ∙ ap (λ (w : RackOf X). make t.slots (slice_set t.rows row (row_in u.rows row)) t.uses w) rack))

@@ -6,6 +6,7 @@ pub mod Held
 pub mod Boxes
 pub mod Changed
 pub mod Found
+pub mod Seek
 pub mod Fresh
 pub mod Moves
 pub mod Growth

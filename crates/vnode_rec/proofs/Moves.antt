@@ -91,18 +91,18 @@ module _ {X : Type 0} (vkind : X → VKind) (slots : List (Slot X)) (held : Held
       module _ (rack' : RackOf X) (given : rack' ≡ with_boxes (vkind box) (boxes_of (vkind box) mid ++ box ∷ []) mid) (place' : List ℕ) (moved : place' ≡ slice_set place i chains) where
         pub swap_sound : IsSound (slice_set slots i (record old { vop = Some dead; doomed = true })) held free empty place' linked chains rack'
         swap_sound = changed_sound slots i old (record old { vop = Some dead; doomed = true }) was held free empty place linked chains rack sound free empty place' rack'
-          (same_current slots i old (record old { vop = Some dead; doomed = true }) was held.rows refl refl sound.current)
-          refl (λ j n. refl) (listed.is_free ∙ ap (λ b. b && (occurs i held.rows == 0)) full)
-          refl (λ j n. refl) (listed.is_empty ∙ ap not full)
-          (λ z. absurd (let k : ⊥ = cc in k))
-          (ap length moved ∙ length-set place i chains) (λ j n. ap (λ l. at l j) moved ∙ at_other place i j chains n) (ap (λ l. at l i) moved ∙ at_same place i chains place_within)
-          (λ z. absurd (let k : ⊥ = cc in k))
-          (λ k. supplied_as slots i old was k (record old { vop = Some dead; doomed = true }) rack rack' (sound.supplied k)
-          (given_room (vkind box) mid rack' box given k ∙ taken_room kind.Dead rack mid dead taken rest k)
-          (let a = given_len (vkind box) mid rack' box given k in
-          let b = taken_len kind.Dead rack mid dead taken rest k in
-          let c : cond {A = ℕ} (same_kind (vkind box) k) 1 0 ≡ cond {A = ℕ} (has_kind k old) 1 0 = ap (λ j. cond {A = ℕ} (same_kind j k) 1 0) (has i old was box had).kind ∙ ap (λ b. cond {A = ℕ} b 1 0) (sym (its_kind full k)) in
-          omega (arith, a, b, c)))
+            (same_current slots i old (record old { vop = Some dead; doomed = true }) was held.rows refl refl sound.current)
+            refl (λ j n. refl) (listed.is_free ∙ ap (λ b. b && (occurs i held.rows == 0)) full)
+            refl (λ j n. refl) (listed.is_empty ∙ ap not full)
+            (λ z. absurd (let k : ⊥ = cc in k))
+            (ap length moved ∙ length-set place i chains) (λ j n. ap (λ l. at l j) moved ∙ at_other place i j chains n) (ap (λ l. at l i) moved ∙ at_same place i chains place_within)
+            (λ z. absurd (let k : ⊥ = cc in k))
+            (λ k. supplied_as slots i old was k (record old { vop = Some dead; doomed = true }) rack rack' (sound.supplied k)
+            (given_room (vkind box) mid rack' box given k ∙ taken_room kind.Dead rack mid dead taken rest k)
+            (let a = given_len (vkind box) mid rack' box given k in
+            let b = taken_len kind.Dead rack mid dead taken rest k in
+            let c : cond {A = ℕ} (same_kind (vkind box) k) 1 0 ≡ cond {A = ℕ} (has_kind k old) 1 0 = ap (λ j. cond {A = ℕ} (same_kind j k) 1 0) (has i old was box had).kind ∙ ap (λ b. cond {A = ℕ} b 1 0) (sym (its_kind full k)) in
+            omega (arith, a, b, c)))
 
         pub swap_has : EachSlot (λ s slot. (b : X) → slot.vop ≡ Some b → HasVector vkind slot b) (slice_set slots i (record old { vop = Some dead; doomed = true }))
         swap_has = still_matched slots i old was vkind (record old { vop = Some dead; doomed = true }) has (λ b e. (
@@ -130,16 +130,16 @@ module _ {X : Type 0} (vkind : X → VKind) (slots : List (Slot X)) (held : Held
     module _ (box : X) (had : old.vop ≡ Some box) (rack' : RackOf X) (given : rack' ≡ with_boxes (vkind box) (boxes_of (vkind box) rack ++ box ∷ []) rack) (place' : List ℕ) (moved : place' ≡ slice_set place i chains) where
       pub emptied_sound : IsSound (slice_set slots i (empty_slot old.generation)) held (record free { queue = without i free.queue }) (record empty { queue = empty.queue ++ i ∷ [] }) place' linked chains rack'
       emptied_sound = changed_sound slots i old (empty_slot old.generation) was held free empty place linked chains rack sound (record free { queue = without i free.queue }) (record empty { queue = empty.queue ++ i ∷ [] }) place' rack'
-        (idle_current slots i old (empty_slot old.generation) was held.rows free_idle sound.current)
-        refl (λ j n. others j i free.queue n) (gone i free.queue)
-        refl (λ j n. queued_other true j i empty.queue n) (queued_same i empty.queue)
-        (λ z. low)
-        (ap length moved ∙ length-set place i chains) (λ j n. ap (λ l. at l j) moved ∙ at_other place i j chains n) (ap (λ l. at l i) moved ∙ at_same place i chains place_within)
-        (λ z. absurd (let k : ⊥ = cc in k))
-        (λ k. supplied_as slots i old was k (empty_slot old.generation) rack rack' (sound.supplied k) (given_room (vkind box) rack rack' box given k)
-        (let a = given_len (vkind box) rack rack' box given k in
-        let c : cond {A = ℕ} (same_kind (vkind box) k) 1 0 ≡ cond {A = ℕ} (has_kind k old) 1 0 = ap (λ j. cond {A = ℕ} (same_kind j k) 1 0) (has i old was box had).kind ∙ ap (λ b. cond {A = ℕ} b 1 0) (sym (its_kind free_full k)) in
-        omega (arith, a, c)))
+          (idle_current slots i old (empty_slot old.generation) was held.rows free_idle sound.current)
+          refl (λ j n. others j i free.queue n) (gone i free.queue)
+          refl (λ j n. queued_other true j i empty.queue n) (queued_same i empty.queue)
+          (λ z. low)
+          (ap length moved ∙ length-set place i chains) (λ j n. ap (λ l. at l j) moved ∙ at_other place i j chains n) (ap (λ l. at l i) moved ∙ at_same place i chains place_within)
+          (λ z. absurd (let k : ⊥ = cc in k))
+          (λ k. supplied_as slots i old was k (empty_slot old.generation) rack rack' (sound.supplied k) (given_room (vkind box) rack rack' box given k)
+          (let a = given_len (vkind box) rack rack' box given k in
+          let c : cond {A = ℕ} (same_kind (vkind box) k) 1 0 ≡ cond {A = ℕ} (has_kind k old) 1 0 = ap (λ j. cond {A = ℕ} (same_kind j k) 1 0) (has i old was box had).kind ∙ ap (λ b. cond {A = ℕ} b 1 0) (sym (its_kind free_full k)) in
+          omega (arith, a, c)))
 
       pub emptied_has : EachSlot (λ s slot. (b : X) → slot.vop ≡ Some b → HasVector vkind slot b) (slice_set slots i (empty_slot old.generation))
       emptied_has = still_matched slots i old was vkind (empty_slot old.generation) has (λ b e. cc)
@@ -176,16 +176,16 @@ module _ {X : Type 0} (vkind : X → VKind) (slots : List (Slot X)) (held : Held
         (place' : List ℕ) (moved : place' ≡ slice_set place i (chain_of (identity vd name) chains)) where
       pub filled_sound : IsSound (slice_set slots i (record { vop = Some box; vdata = vd; name = name; generation = old.generation + 1; doomed = false })) held (record free { queue = free.queue ++ i ∷ [] }) (record empty { queue = without i empty.queue }) place' linked chains rack'
       filled_sound = changed_sound slots i old (record { vop = Some box; vdata = vd; name = name; generation = old.generation + 1; doomed = false }) was held free empty place linked chains rack sound (record free { queue = free.queue ++ i ∷ [] }) (record empty { queue = without i empty.queue }) place' rack'
-        (idle_current slots i old (record { vop = Some box; vdata = vd; name = name; generation = old.generation + 1; doomed = false }) was held.rows hollow_idle sound.current)
-        refl (λ j n. queued_other true j i free.queue n) (queued_same i free.queue ∙ sym (eq_yes (occurs i held.rows) 0 hollow_idle))
-        refl (λ j n. others j i empty.queue n) (gone i empty.queue)
-        (λ z. absurd (let k : ⊥ = cc in k))
-        (ap length moved ∙ length-set place i (chain_of (identity vd name) chains)) (λ j n. ap (λ l. at l j) moved ∙ at_other place i j (chain_of (identity vd name) chains) n) (ap (λ l. at l i) moved ∙ at_same place i (chain_of (identity vd name) chains) place_within)
-        (λ z s x n e live same. absent s x e live same)
-        (λ k. supplied_as slots i old was k (record { vop = Some box; vdata = vd; name = name; generation = old.generation + 1; doomed = false }) rack rack' (sound.supplied k) (taken_room (kind_of_data vd) rack rack' box taken rest k)
-        (let a = taken_len (kind_of_data vd) rack rack' box taken rest k in
-        let b = ap (λ b. cond {A = ℕ} b 1 0) (no_kind k) in
-        omega (arith, a, b)))
+          (idle_current slots i old (record { vop = Some box; vdata = vd; name = name; generation = old.generation + 1; doomed = false }) was held.rows hollow_idle sound.current)
+          refl (λ j n. queued_other true j i free.queue n) (queued_same i free.queue ∙ sym (eq_yes (occurs i held.rows) 0 hollow_idle))
+          refl (λ j n. others j i empty.queue n) (gone i empty.queue)
+          (λ z. absurd (let k : ⊥ = cc in k))
+          (ap length moved ∙ length-set place i (chain_of (identity vd name) chains)) (λ j n. ap (λ l. at l j) moved ∙ at_other place i j (chain_of (identity vd name) chains) n) (ap (λ l. at l i) moved ∙ at_same place i (chain_of (identity vd name) chains) place_within)
+          (λ z s x n e live same. absent s x e live same)
+          (λ k. supplied_as slots i old was k (record { vop = Some box; vdata = vd; name = name; generation = old.generation + 1; doomed = false }) rack rack' (sound.supplied k) (taken_room (kind_of_data vd) rack rack' box taken rest k)
+          (let a = taken_len (kind_of_data vd) rack rack' box taken rest k in
+          let b = ap (λ b. cond {A = ℕ} b 1 0) (no_kind k) in
+          omega (arith, a, b)))
 
       pub filled_has : EachSlot (λ s slot. (b : X) → slot.vop ≡ Some b → HasVector vkind slot b) (slice_set slots i (record { vop = Some box; vdata = vd; name = name; generation = old.generation + 1; doomed = false }))
       filled_has = still_matched slots i old was vkind (record { vop = Some box; vdata = vd; name = name; generation = old.generation + 1; doomed = false }) has (λ b e. (

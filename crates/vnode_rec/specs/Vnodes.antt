@@ -1,5 +1,5 @@
 -- What contracts see of a table of vnodes.
-use Rattle.std.specs.Prelude.{ℕ, ◌≡◌, ◌<◌, ◌≤◌, ◌&&◌, Bool, true, false, not, ◌==◌, cond, List, [], ◌∷◌, ◌++◌, length, Option, Some, None, IsSome, All, count_by, is_some, unwrap_or, slice_get, slice_set}
+use Rattle.std.specs.Prelude.{ℕ, suc, ◌≡◌, ◌<◌, ◌≤◌, ◌&&◌, Bool, true, false, not, ◌==◌, cond, List, [], ◌∷◌, ◌++◌, length, Option, Some, None, IsSome, All, count_by, is_some, unwrap_or, slice_get, slice_set}
 use Rattle.std.specs.Option.{option_map, option_and_then}
 use Rattle.op_vector.specs.declared.data.VKind.{VKind}
 use Rattle.op_vector.specs.declared.data.VKind.TheVariants as kind
@@ -10,7 +10,7 @@ use Rattle.op_vector.specs.declared.rack.RackOf.{RackOf}
 use Rattle.op_vector.specs.Rack.{IsByKind}
 use Rattle.free_list.specs.Queue.{Queue}
 use Rattle.vnode_rec.specs.declared.slot.Slot.{Slot}
-use Rattle.vnode_rec.specs.Identity.{identity}
+use Rattle.vnode_rec.specs.Identity.{identity, same_identity}
 use Rattle.vnode_rec.specs.Holders.{occurs, row_in}
 
 -- the slots, the rows of holders with the number of use rows, the free list and the boxes that no vnode has
@@ -96,6 +96,15 @@ module _ {X : Type 0} where
   -- no live vnode has this identity
   abbrev pub HasNone : VData × Option (List ℕ) → Table X → Type 0
   HasNone id t = (vid : Vid) → identity_at t vid ≡ Some id → ⊥
+
+  -- the first of these slots, numbered from `s` on, whose vnode isn't doomed and has this identity
+  abbrev pub seek : VData × Option (List ℕ) → ℕ → List (Slot X) → Option Vid
+  seek id s [] = None
+  seek id s (slot ∷ slots) = cond (is_live slot && same_identity (identity_of slot) id) (Some (record { slot = s; generation = slot.generation })) (seek id (suc s) slots)
+
+  -- the vnode that isn't doomed and has this identity
+  abbrev pub vnode_of : VData × Option (List ℕ) → Table X → Option Vid
+  vnode_of id t = seek id 0 t.slots
 
   -- what holds of each slot with its number
   abbrev pub EachSlot : (ℕ → Slot X → Type 0) → List (Slot X) → Type 0

@@ -25,7 +25,12 @@ pub fn key_of(vd: &VData, is_named: bool) -> VData
     ensures { result ≡ found_by vd.now is_named }
 {
     match *vd {
-        VData::Union { mount, ino, lower, .. } => VData::Union {
+        VData::Union {
+            mount,
+            ino,
+            lower,
+            ..
+        } => VData::Union {
             mount,
             ino,
             upper: None,

@@ -9,7 +9,7 @@ ghost use Rattle.op_vector.specs.Rack.{boxes_of, room_of, IsByKind};
 ghost use Rattle.free_list.specs.Queue.{Queue, member};
 ghost use Rattle.vnode_rec.specs.Identity.{identity};
 ghost use Rattle.vnode_rec.specs.Holders.{occurs, row_in, held_in};
-ghost use Rattle.vnode_rec.specs.Vnodes.{Table, slot_at, box_at, data_at, data_in, name_at, identity_at, empty_slot, kind_of_data, EachSlot, AreFilled, HasRoom, HasNone, IsCurrent, IsLive, IsEmptyAt, IsMatched, WasGiven, Grows};
+ghost use Rattle.vnode_rec.specs.Vnodes.{Table, slot_at, box_at, data_at, data_in, name_at, identity_at, vnode_of, empty_slot, kind_of_data, EachSlot, AreFilled, HasRoom, HasNone, IsCurrent, IsLive, IsEmptyAt, IsMatched, WasGiven, Grows};
 ghost use Rattle.vnode_rec.specs.Effects.{queued, took, with_pair, TakesPair, LeftRow, HasPair, HasSwapped, HasEmptied, HasNoSlot, HasClaimed, HasFilled};
 
 use crate::chains::{Chains, chain_for};
@@ -215,6 +215,7 @@ impl<B: Vop> VnodeTableOf<B> {
     /// is none.
     pub fn find(&self, vd: &VData, name: Option<&Name>) -> Option<Vid>
         ensures found { IfSome result (λ v. identity_at self.now v ≡ Some (identity vd.now (option_copied name.entry))) }
+        ensures exact { result ≡ vnode_of (identity vd.now (option_copied name.entry)) self.now }
         ensures none { IsNone result ↔ HasNone (identity vd.now (option_copied name.entry)) self.now }
         ensures only { (v : Vid) → identity_at self.now v ≡ Some (identity vd.now (option_copied name.entry)) → result ≡ Some v }
     {

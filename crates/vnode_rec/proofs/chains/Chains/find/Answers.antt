@@ -33,8 +33,7 @@ returns-then-is_of-clause-found g c =
     let v = c.args.self.now in
     let len = c.requires.len in
     let within = c.if-slots-at.false in
-    let id = identity c.args.vd.now (option_copied c.args.name) in
-    (
+    let id = identity c.args.vd.now (option_copied c.args.name) in (
       on_chain v.next v.place v.slots c.args.chain id c.args.slots.now c.loop.at c.loop.counter c.loop.invariant (omega (arith, len, within)),
       (
         c.index-slots-at.result,
@@ -56,13 +55,13 @@ loop-preserved g c =
     let x : Slot g.row.B.Denot = c.index-slots-at.result in
     let here : slice_get c.args.slots.now c.loop.at ≡ Some x = is_at v.next v.place v.slots c.args.chain id c.args.slots.now c.loop.at x (omega (arith, within)) c.index-slots-at.is in
     let other : HasIdentity id c.args.slots.now c.loop.at → ⊥ = λ i. (
-        let both : Some i.0 ≡ Some x = sym i.1 ∙ here in
-        let same : i.0 ≡ x = cc in
-        let yes : c.is_of.result ≡ true = c.is_of.ensures.1 (subst (λ (y : Slot g.row.B.Denot). identity_of y ≡ id) same i.2) in
-        let out : c.is_of.result ≡ false = c.if-is_of.false in
-        let z : true ≡ false = sym yes ∙ out in
-        cc
-        ) in
+    let both : Some i.0 ≡ Some x = sym i.1 ∙ here in
+    let same : i.0 ≡ x = cc in
+    let yes : c.is_of.result ≡ true = c.is_of.ensures.1 (subst (λ (y : Slot g.row.B.Denot). identity_of y ≡ id) same i.2) in
+    let out : c.is_of.result ≡ false = c.if-is_of.false in
+    let z : true ≡ false = sym yes ∙ out in
+    cc
+    ) in
     let next : c.index-at-in-loop.result.now ≡ at f.next.items c.loop.at = link_of f.next.items c.loop.at c.index-at-in-loop.result.now (omega (arith, within, len, nl)) c.index-at-in-loop.ensures in
     let next' : c.index-at-in-loop.result.now ≡ at v.next c.loop.at = subst (λ (w : Links). c.index-at-in-loop.result.now ≡ at w.next c.loop.at) c.self.view_is next in
     subst (λ a. Walking {X = g.row.B.Denot} v.next v.place v.slots c.args.chain id c.args.slots.now a (c.loop.counter + 1)) (sym next')

@@ -10,5 +10,5 @@ invariant_of-result c =
     let few = c.requires.few in
     let small = c.requires.small in
     nothing_counted c.in_ok-rows.rows.items c.args.uses c.in_ok-use_counts.use_counts.items c.in_ok-hold_counts.hold_counts.items
-        (ul ∙ sym hl) (omega (arith, rl, hl, few)) (omega (arith, hl, small)) (omega (arith, rl))
-        c.in_ok-rows.ensures.empty c.in_ok-use_counts.ensures.zero c.in_ok-hold_counts.ensures.zero
+    (ul ∙ sym hl) (omega (arith, rl, hl, few)) (omega (arith, hl, small)) (omega (arith, rl))
+    c.in_ok-rows.ensures.empty c.in_ok-use_counts.ensures.zero c.in_ok-hold_counts.ensures.zero

@@ -49,12 +49,12 @@ reclaim-requires-clause-low g c =
     let x : Slot X = c.index.result.now in
     let was : slice_get c.args.self.now.slots s ≡ Some x = subst (λ (t : Table X). slice_get t.slots s ≡ Some x) c.self.view_is (slice_get-get_or f.slots.items s x below ∙ ap (λ (y : Slot X). Some y) (sym c.index.ensures)) in
     λ n y e q. (
-        let both : Some y ≡ Some x = sym e ∙ (ap (slice_get c.args.self.now.slots) q ∙ was) in
-        let one : y ≡ x = cc in
-        let g = ap (λ (z : Slot X). z.generation) one in
-        let not_top = c.if-index.false in
-        omega (arith, g, not_top)
-        )
+    let both : Some y ≡ Some x = sym e ∙ (ap (slice_get c.args.self.now.slots) q ∙ was) in
+    let one : y ≡ x = cc in
+    let g = ap (λ (z : Slot X). z.generation) one in
+    let not_top = c.if-index.false in
+    omega (arith, g, not_top)
+    )
 
 pub returns-in-Some-clause-none : goal.returns-in-Some-clause-none
 returns-in-Some-clause-none g c =

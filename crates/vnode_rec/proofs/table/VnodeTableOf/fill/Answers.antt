@@ -267,12 +267,12 @@ returns-clause-fresh g c =
     let slot_is : p ≡ old = c.index_mut-place.ensures.value ∙ get_or_from_slice_get f.slots.items i old p was in
     let gen_is : p.generation ≡ old.generation = ap (λ (s : Slot X). s.generation) slot_is in
     subst (λ (t : Table X). WasGiven t (record { slot = i; generation = p.generation + 1 }) → ⊥) c.self.view_is (λ w. (
-        let both : Some w.slot ≡ Some old = sym w.was ∙ was in
-        let one : w.slot ≡ old = cc in
-        let k = w.given in
-        let o = ap (λ (s : Slot X). s.generation) one in
-        omega (arith, k, o, gen_is)
-        ))
+    let both : Some w.slot ≡ Some old = sym w.was ∙ was in
+    let one : w.slot ≡ old = cc in
+    let k = w.given in
+    let o = ap (λ (s : Slot X). s.generation) one in
+    omega (arith, k, o, gen_is)
+    ))
 
 pub returns-clause-grows : goal.returns-clause-grows
 returns-clause-grows g c =

@@ -75,7 +75,7 @@ give-requires g c =
     let slot_is : c.index_mut-slot.result.now ≡ l.slot = c.index_mut-slot.ensures.value ∙ get_or_from_slice_get f.slots.items v.slot l.slot c.index_mut-slot.result.now l.was in
     let had : l.slot.vop ≡ Some c.in-Some-replace.old = ap (λ (s : Slot X). s.vop) (sym slot_is) ∙ sym c.in-Some-replace.ensures.value in
     swap_room vkind f.slots.items f.holders f.free f.empty f.chains.place f.chains.slots f.chains.chains f.rack sound m.slots v.slot l.slot l.was (live_filled l.slot l.live) (live_not_doomed l.slot l.live)
-        c.take.new.self c.in-Some.dead c.in-Some.ensures.taken c.in-Some.ensures.others (c.in-Some.ensures.by_kind m.rack).1 c.in-Some-replace.old had
+    c.take.new.self c.in-Some.dead c.in-Some.ensures.taken c.in-Some.ensures.others (c.in-Some.ensures.by_kind m.rack).1 c.in-Some-replace.old had
 
 pub invariant_of-self : goal.invariant_of-self
 invariant_of-self g c =
@@ -94,8 +94,8 @@ invariant_of-self g c =
     let raw_is : raw ≡ record l.slot { vop = Some c.in-Some.dead; doomed = true } = rw (c.replace.ensures.after, slot_is) refl in
     let moved : c.discard.new.self.place ≡ slice_set f.chains.place v.slot f.chains.chains = c.discard.ensures.place (place_below vkind f.slots.items f.holders f.free f.empty f.chains.place f.chains.slots f.chains.chains f.rack sound m.slots v.slot l.slot l.was) in
     rw (raw_is, c.discard.ensures.slots, c.discard.ensures.chains) (swap_sound vkind f.slots.items f.holders f.free f.empty f.chains.place f.chains.slots f.chains.chains f.rack sound m.slots v.slot l.slot l.was (live_filled l.slot l.live) (live_not_doomed l.slot l.live)
-        c.take.new.self c.in-Some.dead c.in-Some.ensures.taken c.in-Some.ensures.others (c.in-Some.ensures.by_kind m.rack).1 c.in-Some-replace.old had
-        c.give.new.self c.give.ensures.given c.discard.new.self.place moved)
+    c.take.new.self c.in-Some.dead c.in-Some.ensures.taken c.in-Some.ensures.others (c.in-Some.ensures.by_kind m.rack).1 c.in-Some-replace.old had
+    c.give.new.self c.give.ensures.given c.discard.new.self.place moved)
 
 pub returns-clause-matched : goal.returns-clause-matched
 returns-clause-matched g c =
