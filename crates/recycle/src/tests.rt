@@ -152,8 +152,14 @@ fn forty_vnodes_share_the_slots_beside_one(rt: HostRuntime) -> Result<(), AllocE
     for ino in 2..42 {
         let vid = comes_and_goes(alloc, &mut table, ino)?;
         assert!(rt; vid.slot != held.slot);
-        assert!(rt; table.kind_of(held) == Some(VKind::Mem) && table.find(&root, None) == Some(held));
-        greatest = if vid.generation > greatest { vid.generation } else { greatest };
+        assert!(rt;
+            table.kind_of(held) == Some(VKind::Mem) && table.find(&root, None) == Some(held)
+        );
+        greatest = if vid.generation > greatest {
+            vid.generation
+        } else {
+            greatest
+        };
     }
     assert!(rt; greatest == 3);
     assert!(rt; table.held(0, 0) == Some(held));
@@ -167,6 +173,11 @@ fn forty_vnodes_share_the_slots_beside_one(rt: HostRuntime) -> Result<(), AllocE
     assert!(rt; table.find(&root, None).is_none());
     assert!(rt; table.data_of(held).is_some());
     assert!(rt; table.dispatch(held, Op::Read) == Route::Refuse { errno: Errno::EIO });
-    assert!(rt; table.dispatch(held, Op::Lookup) == Route::Refuse { errno: Errno::ENOTDIR });
+    assert!(rt;
+        table.dispatch(held, Op::Lookup)
+            == Route::Refuse {
+                errno: Errno::ENOTDIR
+            }
+    );
     Ok(())
 }
