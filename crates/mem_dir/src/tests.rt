@@ -32,6 +32,7 @@ fn each_call(rt: HostRuntime) -> Result<(), Fail> {
     assert_eq!(rt; dir.find(&name), Some(NameEntry::White));
     assert_eq!(rt; dir.list(alloc)?.len(), 0);
     assert_eq!(rt; dir.list_white(alloc)?.as_slice().first(), Some(&name));
+    dir.reserve(alloc)?;
     dir.insert(name_of(alloc, 5)?, NameEntry::Ino { ino: 2 });
     assert_eq!(rt; dir.list(alloc)?.as_slice().first(), Some(&name));
     assert_eq!(rt; dir.list_white(alloc)?.len(), 0);
