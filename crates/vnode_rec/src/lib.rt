@@ -7,8 +7,6 @@ mod holders;
 mod row;
 mod slot;
 mod table;
-#[cfg(test)]
-mod tests;
 
 pub use slot::Slot;
 pub use table::{Fell, VnodeTable, VnodeTableOf};
