@@ -3,7 +3,5 @@
 #![tactic(auto)]
 
 mod recycle;
-#[cfg(test)]
-mod tests;
 
 pub use recycle::new_vnode;
