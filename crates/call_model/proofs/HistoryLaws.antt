@@ -1,12 +1,13 @@
 -- One more entry at the end of a history.
-use Rattle.std.proofs.Common.{◌≡◌, ℕ, Bool, true, false, ◌==◌, ◌++◌, List, [], ◌∷◌, refl, ap, sym, ◌∙◌, subst, cond, inl, inr}
-use Rattle.std.specs.Prelude.{Option, Some, None, MatchBool, filter}
+use Rattle.std.proofs.Common.{◌≡◌, ℕ, true, false, ◌==◌, ◌++◌, List, [], ◌∷◌, refl, ap, sym, ◌∙◌, subst, cond, inl, inr}
+use Rattle.std.specs.Prelude.{Option, Some, None, MatchBool}
 use Rattle.std.specs.Ordering.{nat_cmp, eq_by_cmp}
-use Rattle.std.specs.FinMap.{FinMap, get, remove, insert, get-remove, get-insert}
+use Rattle.std.specs.FinMap.{get, remove, insert, get-remove, get-insert}
 use Rattle.std.specs.Cmp.{nat_cmp_total, unsigned_ties}
 use Rattle.std.proofs.lemmas.Bool.Decides.{eqb_tells}
 use Rattle.vfs_tree.specs.declared.world.World.{World}
-use Rattle.call_model.specs.Apply.{Applied, Finished, Needs, apply}
+use Rattle.call_model.specs.Apply.{Finished, Needs, apply}
+use Rattle.call_model.specs.Effects.{effect}
 use Rattle.call_model.specs.Legal.{Pending, is_no_memory, world_after, after, replay, next_call, IsNeeded, MayLackMemory, doomers_after, doomers_in, IsRight, IsLegalFrom, IsLegal, calls_of, MayAnswer}
 use Rattle.call_model.specs.declared.call.Call.{Call}
 use Rattle.call_model.specs.declared.entry.Entry.{Entry}
@@ -83,6 +84,16 @@ legal-answer p w v es c call r legal its right =
 -- and leaves the world that it answers
 pub replay-answer : (w v : World) (es : List Entry) (c : ℕ) (call : Call) (r : Reply) → MayAnswer (replay w es) (doomers_in [] es) c call r v → v ≡ replay w (es ++ entry.Call c call r ∷ [])
 replay-answer w v es c call r right = after_answer (doomers_in [] es) (replay w es) v c call r right ∙ sym (replay-append w es (entry.Call c call r))
+
+-- an inner entry that a pending call needs in the world of a history stands right at its end
+pub legal-inner : (p : Pending) (w : World) (es : List Entry) (c : ℕ) (call : Call) (x : Inner) → IsLegal p w es → get p c ≡ Some call → apply (replay w es) c call ≡ Needs x
+    → IsLegal p w (es ++ entry.Inner c x ∷ [])
+legal-inner p w es c call x legal its needs =
+    legal_from-append p p [] w es (entry.Inner c x) (λ d. refl) legal (subst (λ o. IsNeeded (replay w es) c o x) (sym its) needs)
+
+-- and leaves what it does to that world
+pub replay-inner : (w : World) (es : List Entry) (c : ℕ) (x : Inner) → effect (replay w es) c x ≡ replay w (es ++ entry.Inner c x ∷ [])
+replay-inner w es c x = sym (replay-append w es (entry.Inner c x))
 
 -- ---- one more pending call
 

@@ -1,5 +1,5 @@
 -- Checks, needs and edits that several rows make.
-use Rattle.std.specs.Prelude.{ℕ, Bool, true, false, not, ◌==◌, List, [], ◌∷◌, Option, Some, None, is_some}
+use Rattle.std.specs.Prelude.{ℕ, Bool, true, not, ◌==◌, List, Option, Some, None, is_some}
 use Rattle.std.specs.FinMap.{get}
 use Rattle.vfs_tree.specs.Place.{Seen, Mem, Null, UnionUp, UnionLow, bare}
 use Rattle.vfs_tree.specs.Layers.{kind_in, store_by, base, is_dir}
@@ -14,7 +14,6 @@ use Rattle.vfs_tree.specs.Views.{facts_of}
 use Rattle.vfs_tree.specs.declared.errno.Errno.{Errno}
 use Rattle.vfs_tree.specs.declared.errno.Errno.TheVariants as errno
 use Rattle.vfs_tree.specs.declared.node.Node.{Node}
-use Rattle.vfs_tree.specs.declared.node.Node.TheVariants.{Dir, File, Link}
 use Rattle.vfs_tree.specs.declared.node.Store.{Store}
 use Rattle.vfs_tree.specs.declared.walk.Found.{Found}
 use Rattle.vfs_tree.specs.declared.walk.Found.TheVariants as found

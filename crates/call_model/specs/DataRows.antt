@@ -1,13 +1,12 @@
 -- What the calls on descriptors and on contents answer. Each takes what its path finds.
-use Rattle.std.specs.Prelude.{ℕ, zero, suc, ◌+◌, ℤ, pos, negsuc, ◌+ℤ◌, Bool, true, false, not, ◌&&◌, ◌||◌, ◌==◌, nat_lt, List, [], ◌∷◌, length, take, drop, Option, Some, None, is_some}
+use Rattle.std.specs.Prelude.{ℕ, zero, suc, ◌+◌, ℤ, pos, negsuc, ◌+ℤ◌, Bool, true, false, not, ◌&&◌, nat_lt, List, [], ◌∷◌, length, take, drop, Option, Some, None, is_some}
 use Rattle.std.specs.FinMap.{get, insert, remove, len}
 use Rattle.vfs_tree.specs.FileEdits.{written, resized}
 use Rattle.vfs_tree.specs.Place.{Seen, Mem, Null, UnionUp, UnionLow}
 use Rattle.vfs_tree.specs.Layers.{base, is_dir}
 use Rattle.vfs_tree.specs.Nodes.{next_of}
 use Rattle.vfs_tree.specs.Steps.{◌>>=◌, ◌>>◌, refuse_if}
-use Rattle.vfs_tree.specs.declared.walk.Step.{Step}
-use Rattle.vfs_tree.specs.declared.walk.Step.TheVariants.{Go, Refuse, Wants}
+use Rattle.vfs_tree.specs.declared.walk.Step.TheVariants.{Go, Refuse}
 use Rattle.vfs_tree.specs.Views.{facts_of}
 use Rattle.vfs_tree.specs.Visible.{visible}
 use Rattle.vfs_tree.specs.declared.errno.Errno.TheVariants as errno
@@ -261,21 +260,32 @@ lseek w c d h i = do
 
 -- ---- truncate(2) and ftruncate(2)
 
-abbrev pub truncate : World → Found → ℕ → Outcome
-truncate w a n = do
-  p ← place_at w a
+-- a file that gets a length: no directory, not too long, and of no lower layer alone
+abbrev pub check_length : World → Seen → ℕ → Doing (Unit {0})
+check_length w p n = do
   refuse_if (is_dir (facts_of w) p) errno.EISDIR
   refuse_if (nat_lt most_bytes n) errno.EFBIG
   copied w p
+
+abbrev pub truncate : World → Found → ℕ → Outcome
+truncate w a n = do
+  p ← place_at w a
+  check_length w p n
   Go (resize_at w p n, reply.Done)
 
-abbrev pub ftruncate : World → ℕ → ℕ → ℕ → Outcome
-ftruncate w c d n = do
+-- the file of a descriptor that gets a length
+abbrev pub open_length : World → ℕ → ℕ → ℕ → Doing Seen
+open_length w c d n = do
   o ← descriptor w c d
   refuse_if o.dead errno.EBADF
   refuse_if (not o.mode.write) errno.EINVAL
   refuse_if (nat_lt most_bytes n) errno.EFBIG
-  Go (resize_at w o.place n, reply.Done)
+  Go o.place
+
+abbrev pub ftruncate : World → ℕ → ℕ → ℕ → Outcome
+ftruncate w c d n = do
+  p ← open_length w c d n
+  Go (resize_at w p n, reply.Done)
 
 -- ---- what is known of an open file
 
@@ -296,10 +306,16 @@ readdir w c d = do
   names ← lifted w (visible w o.place)
   Go (w, reply.Names names)
 
--- fchdir(2)
-abbrev pub fchdir : World → ℕ → ℕ → Outcome
-fchdir w c d = do
+-- the directory of a descriptor
+abbrev pub open_dir : World → ℕ → ℕ → Doing Seen
+open_dir w c d = do
   o ← descriptor w c d
   refuse_if o.dead errno.ENOTDIR
   refuse_if (not (is_dir (facts_of w) o.place)) errno.ENOTDIR
-  Go (with_cwd w c o.place, reply.Done)
+  Go o.place
+
+-- fchdir(2)
+abbrev pub fchdir : World → ℕ → ℕ → Outcome
+fchdir w c d = do
+  p ← open_dir w c d
+  Go (with_cwd w c p, reply.Done)

@@ -1,10 +1,9 @@
 -- What the inner entries do to a world.
-use Rattle.std.specs.Prelude.{ℕ, Bool, true, false, not, ◌&&◌, ◌||◌, ◌==◌, if◌then◌else◌, List, [], map, Option, Some, None}
-use Rattle.std.specs.Str.{bytes_eq}
+use Rattle.std.specs.Prelude.{ℕ, false, ◌||◌, if◌then◌else◌, List, [], map, Option, Some, None}
 use Rattle.std.specs.FinMap.{FinMap, get, insert, entries, from_entries}
 use Rattle.std.specs.declared.cmp.Ordering.{Ordering}
 use Rattle.vfs_tree.specs.Place.{Seen, Mem, Null, UnionUp, UnionLow}
-use Rattle.vfs_tree.specs.Layers.{base, same_place}
+use Rattle.vfs_tree.specs.Layers.{same_place}
 use Rattle.vfs_tree.specs.Child.{child_of, child_below, low}
 use Rattle.vfs_tree.specs.Edits.{made, with_store, new_dir}
 use Rattle.vfs_tree.specs.Mounts.{cut_with}

@@ -2,11 +2,12 @@
 use Rattle.std.specs.Prelude.{ℕ, Bool, true, false, not, ◌==◌, ◌≡◌, if◌then◌else◌, MatchBool, List, [], ◌∷◌, ◌++◌, filter, Option, Some, None}
 use Rattle.std.specs.List.{list_any}
 use Rattle.std.specs.Ordering.{nat_cmp}
-use Rattle.std.specs.FinMap.{FinMap, get, empty}
+use Rattle.std.specs.FinMap.{FinMap, get}
 use Rattle.vfs_tree.specs.declared.errno.Errno.{Errno}
 use Rattle.vfs_tree.specs.declared.errno.Errno.TheVariants as errno
 use Rattle.vfs_tree.specs.declared.world.World.{World}
 use Rattle.call_model.specs.Apply.{Applied, Finished, Needs, apply}
+use Rattle.call_model.specs.Effects.{effect}
 use Rattle.call_model.specs.declared.call.Call.{Call}
 use Rattle.call_model.specs.declared.call.Line.{Line}
 use Rattle.call_model.specs.declared.entry.Entry.{Entry}
@@ -37,11 +38,10 @@ abbrev pub world_after : World → Applied → World
 world_after w (Finished new r) = new
 world_after w (Needs x) = w
 
--- The world after an entry; want of memory leaves it. No call that is served needs an inner entry, so no legal history
--- has one.
+-- the world after an entry; want of memory leaves it
 abbrev pub after : World → Entry → World
 after w (entry.Call c call r) = if is_no_memory r then w else world_after w (apply w c call)
-after w (entry.Inner c x) = w
+after w (entry.Inner c x) = effect w c x
 
 -- the world that the entries leave, one after the other
 abbrev pub replay : World → List Entry → World

@@ -1,12 +1,10 @@
 pub mod Recorded
-pub mod Steps
-pub mod Walk
-pub mod Apply
-pub mod Legal
 pub mod Checks
 pub mod NameRows
 pub mod DataRows
 pub mod Refs
 pub mod MountRows
-pub mod Effects
 pub mod Rows
+pub mod Apply
+pub mod Effects
+pub mod Legal

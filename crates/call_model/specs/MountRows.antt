@@ -1,5 +1,5 @@
 -- What the calls on mounts answer. Each takes what its paths find.
-use Rattle.std.specs.Prelude.{ℕ, ◌+◌, Bool, true, false, not, ◌==◌, nat_lt, List, Option, Some, None}
+use Rattle.std.specs.Prelude.{ℕ, ◌+◌, false, not, ◌==◌, nat_lt, Option, Some, None}
 use Rattle.std.specs.List.{list_any}
 use Rattle.std.specs.FinMap.{get, insert, remove, len}
 use Rattle.vfs_tree.specs.Place.{Seen, Mem, Null, UnionUp, UnionLow}
@@ -7,7 +7,6 @@ use Rattle.vfs_tree.specs.Layers.{is_file, same_place, depth, stores}
 use Rattle.vfs_tree.specs.Mounts.{has_references, is_covered}
 use Rattle.vfs_tree.specs.Start.{empty_store}
 use Rattle.vfs_tree.specs.Steps.{◌>>=◌, ◌>>◌, refuse_if}
-use Rattle.vfs_tree.specs.declared.walk.Step.{Step}
 use Rattle.vfs_tree.specs.declared.walk.Step.TheVariants.{Go, Refuse, Wants}
 use Rattle.vfs_tree.specs.Views.{facts_of}
 use Rattle.vfs_tree.specs.declared.errno.Errno.TheVariants as errno

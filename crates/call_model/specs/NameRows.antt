@@ -1,6 +1,6 @@
 -- What the calls on names answer. Each takes what its paths find.
-use Rattle.std.specs.Prelude.{ℕ, ◌+◌, min, Bool, true, false, not, ◌&&◌, ◌==◌, nat_lt, if◌then◌else◌, List, [], ◌∷◌, length, Option, Some, None, is_some}
-use Rattle.std.specs.FinMap.{get, insert}
+use Rattle.std.specs.Prelude.{ℕ, min, Bool, true, false, not, ◌==◌, nat_lt, List, length, Option, Some, None}
+use Rattle.std.specs.FinMap.{insert}
 use Rattle.vfs_tree.specs.Place.{Seen, Mem, Null, UnionUp, UnionLow, mount_of, bare}
 use Rattle.vfs_tree.specs.Layers.{base, is_dir, target_of, same_place, kind_in}
 use Rattle.vfs_tree.specs.Carriers.{is_in_union, is_busy, is_below}
@@ -9,10 +9,9 @@ use Rattle.vfs_tree.specs.Edits.{new_dir}
 use Rattle.vfs_tree.specs.Paths.{has_zero, is_empty}
 use Rattle.vfs_tree.specs.StoreEdits.{set_entry, clear_entry, renamed}
 use Rattle.vfs_tree.specs.Steps.{◌>>=◌, ◌>>◌, refuse_if}
-use Rattle.vfs_tree.specs.declared.walk.Step.{Step}
-use Rattle.vfs_tree.specs.declared.walk.Step.TheVariants.{Go, Refuse, Wants}
+use Rattle.vfs_tree.specs.declared.walk.Step.TheVariants.{Go, Refuse}
 use Rattle.vfs_tree.specs.Views.{facts_of}
-use Rattle.vfs_tree.specs.Visible.{visible}
+use Rattle.vfs_tree.specs.Visible.{has_visible}
 use Rattle.vfs_tree.specs.declared.errno.Errno.TheVariants as errno
 use Rattle.vfs_tree.specs.declared.mount.MountKind.{MountKind}
 use Rattle.vfs_tree.specs.declared.mount.MountKind.TheVariants as mount
@@ -33,22 +32,22 @@ use Rattle.call_model.specs.declared.target.Target.{Target}
 
 -- ---- directories
 
--- mkdir(2): a directory that is made over a whiteout is opaque
+-- an empty directory is made; over a whiteout it is opaque
+abbrev pub made_dir : World → Target → Doing World
+made_dir w t = make_at w t.dir t.name (new_dir (base (facts_of w) t.dir).ino (has_white w t.dir t.name))
+
+-- mkdir(2)
 abbrev pub mkdir : World → Found → Outcome
 mkdir w a = do
   t ← free_target w a
-  new ← make_at w t.dir t.name (new_dir (base (facts_of w) t.dir).ino (has_white w t.dir t.name))
+  new ← made_dir w t
   Go (new, reply.Done)
-
-abbrev pub is_empty_list : List (List ℕ) → Bool
-is_empty_list [] = true
-is_empty_list (n ∷ ns) = false
 
 -- no name is visible in a directory
 abbrev pub check_empty : World → Seen → Doing (Unit {0})
 check_empty w d = do
-  names ← lifted w (visible w d)
-  refuse_if (not (is_empty_list names)) errno.ENOTEMPTY
+  shows ← lifted w (has_visible w d)
+  refuse_if shows errno.ENOTEMPTY
 
 -- what is removed is there, is a directory on which nothing is mounted, and no name is visible in it
 abbrev pub check_removed : World → Option Seen → Doing (Unit {0})
@@ -92,12 +91,16 @@ check_text text = do
   refuse_if (has_zero text) errno.EINVAL
   refuse_if (nat_lt 1023 (length text)) errno.ENAMETOOLONG
 
+-- a link with that text is made
+abbrev pub made_link : World → List ℕ → Target → Doing World
+made_link w text t = make_at w t.dir t.name (Link text)
+
 -- symlink(2)
 abbrev pub symlink : World → List ℕ → Found → Outcome
 symlink w text a = do
   check_text text
   t ← free_target w a
-  new ← make_at w t.dir t.name (Link text)
+  new ← made_link w text t
   Go (new, reply.Done)
 
 abbrev pub link_text : Option (List ℕ) → Doing (List ℕ)
@@ -171,21 +174,21 @@ check_replaced w moves_dir (Some p) = check_kinds moves_dir (is_dir (facts_of w)
 check_replaced w moves_dir None = Go tt
 
 -- the new name gives what the old one gave
-abbrev pub renamed_at : World → Target → Target → World
-renamed_at w old new =
-    edit_at w old.dir (λ t from. renamed (is_in_union old.dir) (is_in_union new.dir) t from old.name (base (facts_of w) new.dir).ino new.name)
+abbrev pub renamed_at : World → Seen → List ℕ → Target → World
+renamed_at w d n new =
+    edit_at w d (λ t from. renamed (is_in_union d) (is_in_union new.dir) t from n (base (facts_of w) new.dir).ino new.name)
 
 -- where the two names don't stand for one place
-abbrev pub rename_apart : World → Seen → Target → Target → Outcome
-rename_apart w source old new = do
+abbrev pub rename_apart : World → Seen → Seen → List ℕ → Target → Outcome
+rename_apart w source d n new = do
   check_source (is_dir (facts_of w) source) w source new.dir
   check_replaced w (is_dir (facts_of w) source) new.child
   copied w source
-  Go (renamed_at w old new, reply.Done)
+  Go (renamed_at w d n new, reply.Done)
 
-abbrev pub rename_case : Bool → World → Seen → Target → Target → Outcome
-rename_case true w source old new = Go (w, reply.Done)
-rename_case false w source old new = rename_apart w source old new
+abbrev pub rename_case : Bool → World → Seen → Seen → List ℕ → Target → Outcome
+rename_case true w source d n new = Go (w, reply.Done)
+rename_case false w source d n new = rename_apart w source d n new
 
 abbrev pub rename : World → Found → Found → Outcome
 rename w a b = do
@@ -193,7 +196,7 @@ rename w a b = do
   source ← there old.child
   new ← target_at w errno.EINVAL b
   refuse_if (not (mount_of old.dir == mount_of new.dir)) errno.EXDEV
-  rename_case (is_there source new.child) w source old new
+  rename_case (is_there source new.child) w source old.dir old.name new
 
 -- ---- what is known of a file
 

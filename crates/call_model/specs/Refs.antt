@@ -1,11 +1,10 @@
 -- Live references: the open files and current directories that aren't dead, and which of them is the first.
-use Rattle.std.specs.Prelude.{ℕ, Bool, true, false, not, ◌&&◌, ◌||◌, ◌==◌, nat_lt, List, [], ◌∷◌, ◌++◌, map, Option, Some, None, option_map}
+use Rattle.std.specs.Prelude.{ℕ, Bool, true, false, not, ◌&&◌, ◌||◌, ◌==◌, nat_lt, List, ◌++◌, map, Option, Some, None, option_map}
 use Rattle.std.specs.List.{filter, fold}
-use Rattle.std.specs.FinMap.{FinMap, get, entries, from_entries}
-use Rattle.std.specs.declared.cmp.Ordering.{Ordering}
+use Rattle.std.specs.FinMap.{get, entries}
 use Rattle.vfs_tree.specs.Place.{Seen, mount_of}
 use Rattle.vfs_tree.specs.Facts.{Facts}
-use Rattle.vfs_tree.specs.Layers.{depth, base, same_node, same_place}
+use Rattle.vfs_tree.specs.Layers.{depth, base, same_node}
 use Rattle.vfs_tree.specs.Mounts.{is_of}
 use Rattle.vfs_tree.specs.Views.{facts_of}
 use Rattle.vfs_tree.specs.declared.open.Cwd.{Cwd}

@@ -1,11 +1,9 @@
 -- The calls: what the paths of each find, and what it answers then.
 use Rattle.std.specs.Prelude.{ℕ, Bool, true, false, List, Option, Some, None}
 use Rattle.std.specs.FinMap.{get}
-use Rattle.vfs_tree.specs.Facts.{Facts}
-use Rattle.vfs_tree.specs.Paths.{Path, parse}
-use Rattle.vfs_tree.specs.Steps.{◌>>=◌, ◌>>◌}
-use Rattle.vfs_tree.specs.declared.walk.Step.{Step}
-use Rattle.vfs_tree.specs.declared.walk.Step.TheVariants.{Go, Refuse, Wants}
+use Rattle.vfs_tree.specs.Paths.{parse}
+use Rattle.vfs_tree.specs.Steps.{◌>>◌}
+use Rattle.vfs_tree.specs.declared.walk.Step.TheVariants.{Go}
 use Rattle.vfs_tree.specs.Views.{facts_of}
 use Rattle.vfs_tree.specs.Walk.{in_cwd, find}
 use Rattle.vfs_tree.specs.declared.errno.Errno.TheVariants as errno
@@ -20,7 +18,6 @@ use Rattle.call_model.specs.MountRows as mount_rows
 use Rattle.call_model.specs.NameRows as name_rows
 use Rattle.call_model.specs.declared.call.Call.{Call}
 use Rattle.call_model.specs.declared.call.Call.TheVariants as call
-use Rattle.call_model.specs.declared.call.Flags.{Flags}
 
 -- ---- paths
 

@@ -50,6 +50,13 @@ impl History {
         self.entries.push_reserved(entry);
     }
 
+    /// How many entries can be pushed without memory.
+    pub fn spare(&self) -> usize
+        ensures { result ≡ self.now.spare }
+    {
+        self.entries.capacity() - self.entries.len()
+    }
+
     /// How many entries there are.
     pub fn len(&self) -> usize
         ensures { result ≡ length self.now.entries }

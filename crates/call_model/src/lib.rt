@@ -11,7 +11,6 @@ mod entry;
 mod history;
 mod laws;
 mod reply;
-mod step;
 mod target;
 #[cfg(test)]
 mod tests;
@@ -21,5 +20,4 @@ pub use entry::{Entry, Inner, Ref};
 pub use history::History;
 pub use laws::legal_histories_grow;
 pub use reply::{MountWord, Reply};
-pub use step::Step;
 pub use target::Target;

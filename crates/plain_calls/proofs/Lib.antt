@@ -1,2 +1,1 @@
-pub mod EditLaws
-pub mod Lasts
+pub mod Parsing

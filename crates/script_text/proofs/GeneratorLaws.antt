@@ -9,7 +9,8 @@ use Rattle.script_text.specs.declared.script.Script.{Script}
 use Rattle.script_text.specs.Word.{IsBytes}
 use Rattle.script_text.specs.Fits.{IsNumber, FitsCall, FitsLine}
 use Rattle.script_text.specs.Script.{default_limits, HasText}
-use Rattle.script_text.specs.Generator.{mix, directory, file_path, first_path, second_path, chosen_descriptor, chosen_number, chosen_bytes, setup_call, low_row, high_row, last_row, chosen_call, gen_line, gen_lines}
+use Rattle.turn_order.specs.Scattering.{mix}
+use Rattle.script_text.specs.Generator.{directory, file_path, first_path, second_path, chosen_descriptor, chosen_number, chosen_bytes, setup_call, low_row, high_row, last_row, chosen_call, gen_line, gen_lines}
 use Rattle.script_text.proofs.ScriptLaws.{default_is_lawful}
 
 -- ---- bytes

@@ -1,34 +1,13 @@
--- The scattering of numbers, and the script that is made of a number.
-use Rattle.std.specs.Prelude.{ℕ, ◌+◌, ◌*◌, ◌/◌, ◌%◌, ◌^◌, ◌==◌, nat_lt, true, false, if◌then◌else◌, bit_xor, List, [], ◌∷◌, ◌++◌, take, map, codes, pos}
+-- The script that is made of a number.
+use Rattle.std.specs.Prelude.{ℕ, ◌+◌, ◌*◌, ◌/◌, ◌%◌, ◌^◌, ◌==◌, nat_lt, true, false, if◌then◌else◌, List, [], ◌∷◌, ◌++◌, take, map, codes, pos}
 use Rattle.std.specs.List.{range_with_len}
+use Rattle.turn_order.specs.Scattering.{mix}
 use Rattle.call_model.specs.declared.call.Access.TheVariants as access
 use Rattle.call_model.specs.declared.call.Flags.{Flags}
 use Rattle.call_model.specs.declared.call.Whence.TheVariants.{Set}
 use Rattle.call_model.specs.declared.call.Call.{Call}
 use Rattle.call_model.specs.declared.call.Call.TheVariants as call
 use Rattle.call_model.specs.declared.call.Line.{Line}
-
--- ---- scattering
-
--- the sum of two words of 64 bits
-abbrev pub sum_64 : ℕ → ℕ → ℕ
-sum_64 a b = (a + b) % 2 ^ 64
-
--- the product of two words of 64 bits
-abbrev pub product_64 : ℕ → ℕ → ℕ
-product_64 a b = (a * b) % 2 ^ 64
-
--- the word with its high bits folded down by so many places
-abbrev pub folded : ℕ → ℕ → ℕ
-folded z places = bit_xor z (z / 2 ^ places)
-
--- the word number k that is scattered from the seed, as in SplitMix64
-unfoldable pub mix : ℕ → ℕ → ℕ
-mix seed k = folded (product_64 (folded (product_64 (folded (sum_64 seed (product_64 (sum_64 k 1) 0x9E3779B97F4A7C15)) 30) 0xBF58476D1CE4E5B9) 27) 0x94D049BB133111EB) 31
-
--- the place below n that the turn falls on
-abbrev pub pick : ℕ → ℕ → ℕ → ℕ
-pick seed turn n = mix seed turn % n
 
 -- ---- what a scattered word chooses
 

@@ -2,7 +2,7 @@
 //!
 //! Words stand with one space between them, and lines end with a line feed. Each value has one spelling, so a script
 //! that is printed is read again, and a line that is read is printed as it was. The generator makes a script of a
-//! number, and `pick` says on whom a turn falls.
+//! number.
 #![tactic(auto)]
 
 mod call;
@@ -22,7 +22,7 @@ mod script_printing;
 mod word;
 
 pub use fault::ScriptFault;
-pub use generator::{gen_script, mix, pick};
+pub use generator::gen_script;
 pub use laws::texts_tell_scripts_apart;
 pub use number::put_number;
 pub use printing::{put_call, put_line};

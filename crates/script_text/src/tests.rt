@@ -213,30 +213,6 @@ fn cuts(rt: HostRuntime) -> Result<(), Fail> {
 }
 
 #[test]
-fn scattered_words(rt: HostRuntime) {
-    let table: [(u64, u64, u64); 7] = [
-        (0, 0, 16294208416658607535),
-        (0, 1, 7960286522194355700),
-        (7, 8, 2476628477891077985),
-        (1234567, 0, 6457827717110365317),
-        (18446744073709551615, 0, 16490336266968443936),
-        (1, 18446744073709551615, 6238072747940578789),
-        (
-            18446744073709551615,
-            18446744073709551615,
-            13029008266876403067,
-        ),
-    ];
-    for (seed, k, want) in table {
-        assert_eq!(rt; mix(seed, k), want);
-    }
-    assert_eq!(rt; pick(7, 0, 3), 0);
-    assert_eq!(rt; pick(7, 2, 16), 2);
-    assert_eq!(rt; pick(9, 5, 1), 0);
-    assert_eq!(rt; pick(0, 0, 4294967295), 1564374505);
-}
-
-#[test]
 fn generated(rt: HostRuntime) -> Result<(), Fail> {
     let alloc = rt.alloc();
     let script = gen_script(alloc, 7, 24)?;

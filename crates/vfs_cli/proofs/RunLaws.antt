@@ -9,7 +9,6 @@ use Rattle.std.specs.FinMap.{get, empty, get-empty, same_map, nat_cmp-IsAntisymm
 use Rattle.std.proofs.lemmas.List.{append-nil}
 use Rattle.vfs_tree.specs.Limits.{IsLawful, IsCaller}
 use Rattle.vfs_tree.specs.declared.limits.Limits.{Limits}
-use Rattle.call_model.specs.Apply.{is_served}
 use Rattle.call_model.specs.Legal.{calls_of, calls_in}
 use Rattle.call_model.specs.declared.call.Call.{Call}
 use Rattle.call_model.specs.declared.call.Line.{Line}
@@ -18,27 +17,34 @@ use Rattle.script_text.specs.declared.script.Script.{Script}
 use Rattle.vfs_core.specs.Kernel.{Kernel}
 use Rattle.vfs_core.specs.Work.{Work}
 use Rattle.vfs_core.specs.Queues.{queue_at}
-use Rattle.vfs_core.specs.Turning.{FitsJob, Runs, IsDone, calls_with}
-use Rattle.vfs_cli.specs.Output.{HasRun, AreServed}
-use Rattle.vfs_cli.specs.Output as output
+use Rattle.vfs_core.specs.Turning.{FitsJob, Runs, IsDone, calls_with, HasLeft, lines_of}
+use Rattle.script_text.specs.Script.{HasText}
+use Rattle.vfs_cli.specs.Output.{HasRun, IsInTurn, TakesTurns}
+use Rattle.vfs_cli.specs.declared.words.Turns.{Turns}
+use Rattle.vfs_cli.specs.declared.words.Turns.TheVariants.{Scattered, InOrder}
 
 -- a line of a script can be run
-fits_line : (limits : Limits) (line : Line) → FitsLine limits.callers line → is_served line.call ≡ true → FitsJob limits line
-fits_line limits line fits served = record { caller = record { first = fits.first; last = fits.last }; served = served }
+fits_line : (limits : Limits) (line : Line) → FitsLine limits.callers line → FitsJob limits line
+fits_line limits line fits = record { first = fits.first; last = fits.last }
 
-fits_lines : (limits : Limits) (lines : List Line) → AllByRecursion (FitsLine limits.callers) lines → AreServed lines → AllByRecursion (FitsJob limits) lines
-fits_lines limits [] h served = tt
-fits_lines limits (line ∷ lines) h served = (fits_line limits line h.0 served.0, fits_lines limits lines h.1 served.1)
+fits_lines : (limits : Limits) (lines : List Line) → AllByRecursion (FitsLine limits.callers) lines → AllByRecursion (FitsJob limits) lines
+fits_lines limits [] h = tt
+fits_lines limits (line ∷ lines) h = (fits_line limits line h.0, fits_lines limits lines h.1)
 
 -- the lines of a script can be run by a kernel with its limits
-pub fits_script : (script : Script) (limits : Limits) (lines : List Line) → output.Runs script → limits ≡ script.limits → lines ≡ script.lines → AllByRecursion (FitsJob limits) lines
-fits_script script limits lines runs same are =
-    subst (λ (x : List Line). AllByRecursion (FitsJob limits) x) (sym are) (subst (λ (l : Limits). AllByRecursion (FitsJob l) script.lines) (sym same) (fits_lines script.limits script.lines runs.lawful.each runs.served))
+pub fits_script : (script : Script) (limits : Limits) (lines : List Line) → HasText script → limits ≡ script.limits → lines ≡ script.lines → AllByRecursion (FitsJob limits) lines
+fits_script script limits lines text same are =
+    subst (λ (x : List Line). AllByRecursion (FitsJob limits) x) (sym are) (subst (λ (l : Limits). AllByRecursion (FitsJob l) script.lines) (sym same) (fits_lines script.limits script.lines text.each))
+
+-- where the lines were to be run in their order, they are the call entries
+in_turn : (turns : Turns) (script : Script) (start end : Work) (lines : List Line) → start.kern.history ≡ [] → HasLeft lines start → lines ≡ script.lines → TakesTurns turns start end → IsInTurn turns script end.kern.history
+in_turn (Scattered seed) script start end lines none left are takes = tt
+in_turn InOrder script start end lines none left are takes = takes lines left ∙ ap (λ h. lines_of h ++ lines) none ∙ are
 
 -- a job that is done has run the script
-pub has_run : (script : Script) (kern : Kernel) (start end : Work) (lines : List Line) → kern ≡ record { limits = script.limits; history = []; pending = empty } → start.kern ≡ kern
-    → ((c : ℕ) → calls_with start c ≡ calls_of c kern.history ++ calls_in c lines) → lines ≡ script.lines → Runs start end → ((c : ℕ) → IsDone end c) → HasRun script end.kern
-has_run script kern start end lines new is each are runs done =
+pub has_run : (turns : Turns) (script : Script) (kern : Kernel) (start end : Work) (lines : List Line) → kern ≡ record { limits = script.limits; history = []; pending = empty } → start.kern ≡ kern
+    → ((c : ℕ) → calls_with start c ≡ calls_of c kern.history ++ calls_in c lines) → HasLeft lines start → lines ≡ script.lines → Runs start end → ((c : ℕ) → IsDone end c) → TakesTurns turns start end → HasRun turns script end.kern
+has_run turns script kern start end lines new is each left are runs done takes =
     let limits : kern.limits ≡ script.limits = ap (λ (k : Kernel). k.limits) new in
     let none : kern.history ≡ [] = ap (λ (k : Kernel). k.history) new in
     record {
@@ -49,4 +55,5 @@ has_run script kern start end lines new is each are runs done =
           ∙ ap (λ (t : List Call). calls_of c end.kern.history ++ t) (done c).left ∙ append-nil (calls_of c end.kern.history)
           in
           sym rest ∙ runs.each_call c ∙ each c ∙ ap (λ h. calls_of c h ++ calls_in c lines) none ∙ ap (calls_in c) are;
+      in_turn = in_turn turns script start end lines (ap (λ (k : Kernel). k.history) is ∙ none) left are takes;
     }

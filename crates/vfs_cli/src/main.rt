@@ -1,6 +1,7 @@
 //! Runs a script of file calls from standard input, and writes the history of all calls and the final trees.
 //!
-//! `run --seed N` is the one command so far. The exit status says how the run ended.
+//! `run --seed N` and `run --order` run a script from standard input; `gen --seed N --calls K` runs one that it makes and
+//! sums it up, and `show --seed N --calls K` shows that one. The exit status says how the run ended.
 #![tactic(auto)]
 
 mod running;
@@ -9,16 +10,15 @@ mod serial;
 mod tests;
 mod words;
 
-use serial::serial_main;
+use serial::{Ending, serial_main, status_of};
 use std::process::ExitCode;
 use std::{env, io};
 use vfs_flow::{StdSink, StdSource};
 
-/// The exit status for want of memory.
-const NO_MEMORY: u8 = 12;
-
-/// The exit status where the words are no command.
-const USAGE: u8 = 64;
+/// The exit status of an ending.
+fn exit_code(ending: Ending) -> ExitCode {
+    ExitCode::from(status_of(ending).code as u8)
+}
 
 fn main(rt: HostRuntime) -> ExitCode {
     let alloc = rt.alloc();
@@ -27,14 +27,14 @@ fn main(rt: HostRuntime) -> ExitCode {
         Ok(args) => {
             for word in args.skip(1) {
                 if words.push(word).is_err() {
-                    return ExitCode::from(NO_MEMORY);
+                    return exit_code(Ending::NoMemory);
                 }
             }
         }
         Err(error) if error.kind() == io::ErrorKind::OutOfMemory => {
-            return ExitCode::from(NO_MEMORY);
+            return exit_code(Ending::NoMemory);
         }
-        Err(_) => return ExitCode::from(USAGE),
+        Err(_) => return exit_code(Ending::Usage),
     }
     let mut source = StdSource::new(rt.stdin());
     let mut sink = StdSink::new(rt.stdout());

@@ -1,78 +1,72 @@
-// From the bytes of a script to the output.
-ghost use Rattle.std.specs.Prelude.{◌≡◌, ◌++◌, ◌↔◌, ℕ, [], IsTrue, IfOk, Err};
-ghost use Rattle.script_text.specs.Script.{IsTextOf};
-ghost use Rattle.vfs_cli.specs.Output.{AreServed, Runs, HasRun, Outputs, Ran, NoScript};
+// From a script to what is written of it.
+ghost use Rattle.std.specs.Prelude.{◌≡◌, ◌≤◌, ℕ, IfOk, OnOk};
+ghost use Rattle.script_text.specs.Script.{HasText, script_text};
+ghost use Rattle.vfs_core.specs.Turning.{Runs, IsDone};
+ghost use Rattle.vfs_cli.specs.Output.{HasRun, TakesTurns, Outputs, Sums, generated};
 
-use call_model::Line;
-use plain_calls::is_served;
-use script_text::{Script, ScriptFault, read_script};
+use crate::words::Turns;
+use script_text::{Script, gen_script, print_script};
 use std::alloc::{AllocError, Global};
-use trace_text::print_output;
+use trace_text::{print_output, print_summary};
 use vfs_core::{Job, Kern};
 use vfs_tree::Bytes;
 
-/// Whether the calls of the lines are served. The only fault is want of memory.
-fn are_served(alloc: Global, lines: &[Line]) -> Result<bool, AllocError>
-    ensures { IfOk result (λ test. IsTrue test ↔ AreServed lines.now) }
+/// Runs all calls of a job. The only fault is want of memory.
+fn run_job(alloc: Global, job: &mut Job, turns: Turns) -> Result<(), AllocError>
+    ensures runs { Runs job.old job.new }
+    ensures done { OnOk result ((c : ℕ) → IsDone job.new c) }
+    ensures in_turn { OnOk result (TakesTurns turns job.old job.new) }
 {
-    for line in lines {
-        if !is_served(alloc, &line.call)? {
-            return Ok(false);
-        }
+    match turns {
+        Turns::Scattered { seed } => job.run_seed(alloc, seed),
+        Turns::InOrder => job.run_order(alloc),
     }
-    Ok(true)
 }
 
 /// The kernel after all calls of the script. The only fault is want of memory.
-fn run_calls(alloc: Global, script: Script, seed: u64) -> Result<Kern, AllocError>
-    requires { Runs script }
-    ensures { IfOk result (HasRun script) }
+fn run_calls(alloc: Global, script: Script, turns: Turns) -> Result<Kern, AllocError>
+    requires { HasText script }
+    ensures { IfOk result (HasRun turns script) }
 {
     let kern = Kern::new(alloc, script.limits)?;
     let mut job = Job::new(alloc, kern, script.lines.into_vec())?;
-    job.run_seed(alloc, seed)?;
+    run_job(alloc, &mut job, turns)?;
     Ok(job.into_kern())
 }
 
 /// The output of a run of the script. The only fault is want of memory.
-fn run(alloc: Global, script: Script, seed: u64) -> Result<Bytes, AllocError>
-    requires { Runs script }
-    ensures { IfOk result (Outputs script) }
+pub fn run(alloc: Global, script: Script, turns: Turns) -> Result<Bytes, AllocError>
+    requires { HasText script }
+    ensures { IfOk result (Outputs turns script) }
 {
-    let kern = run_calls(alloc, script, seed)?;
+    let kern = run_calls(alloc, script, turns)?;
     let world = kern.world(alloc)?;
     let mut output = Bytes::new(alloc);
     print_output(alloc, kern.history(), &world, &mut output)?;
     Ok(output)
 }
 
-/// The script of the bytes. `BadLine` comes exactly where they are the text of no script whose calls are served.
-fn served_script(alloc: Global, bytes: &[u8]) -> Result<Script, ScriptFault>
-    ensures found { IfOk result (λ script. Runs script × IsTextOf script bytes.now) }
-    ensures bad { (line : ℕ) → result ≡ Err (ScriptFault.BadLine line) → NoScript bytes.now }
+/// The summary of a run of the script that the generator makes of the seed, with its turns by the same seed. The only
+/// fault is want of memory.
+pub fn sum_up(alloc: Global, seed: u64, calls: u32) -> Result<Bytes, AllocError>
+    requires setup { 8 ≤ calls }
+    requires few { calls ≤ 4096 }
+    ensures { IfOk result (Sums (generated seed calls)) }
 {
-    let script = match read_script(alloc, bytes) {
-        Ok(script) => script,
-        Err(fault) => return Err(fault),
-    };
-    match are_served(alloc, script.lines.as_slice()) {
-        Ok(true) => Ok(script),
-        Ok(false) => Err(ScriptFault::BadLine { line: 0 }),
-        Err(_) => Err(ScriptFault::NoMemory),
-    }
+    let script = gen_script(alloc, seed, calls)?;
+    let kern = run_calls(alloc, script, Turns::Scattered { seed })?;
+    let world = kern.world(alloc)?;
+    let mut summary = Bytes::new(alloc);
+    print_summary(alloc, kern.history(), &world, &mut summary)?;
+    Ok(summary)
 }
 
-/// The output for the bytes of a script. `BadLine` comes exactly where they are no script's.
-pub fn answer(alloc: Global, bytes: &[u8], seed: u64) -> Result<Bytes, ScriptFault>
-    ensures ran { IfOk result (Ran bytes.now) }
-    ensures bad { (line : ℕ) → result ≡ Err (ScriptFault.BadLine line) → NoScript bytes.now }
+/// The text of the script that the generator makes of the seed. The only fault is want of memory.
+pub fn show(alloc: Global, seed: u64, calls: u32) -> Result<Bytes, AllocError>
+    requires setup { 8 ≤ calls }
+    requires few { calls ≤ 4096 }
+    ensures { IfOk result (λ text. text ≡ script_text (generated seed calls)) }
 {
-    let script = match served_script(alloc, bytes) {
-        Ok(script) => script,
-        Err(fault) => return Err(fault),
-    };
-    match run(alloc, script, seed) {
-        Ok(output) => Ok(output),
-        Err(_) => Err(ScriptFault::NoMemory),
-    }
+    let script = gen_script(alloc, seed, calls)?;
+    print_script(alloc, &script)
 }

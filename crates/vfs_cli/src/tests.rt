@@ -12,16 +12,16 @@ const SCRIPT: &[u8] = b"vfs 1\n1 mkdir /a\n1 stat /a\n1 mkdir /a\nend\n";
 const OUTPUT: &[u8] =
     b"vfs output 1\n1 mkdir /a = ok\n1 stat /a = stat dir 0\n1 mkdir /a = error EEXIST\ntrees\nmount 0 mem on -\ndir 1 1 plain\nname a 2\ndir 2 1 plain\nend\n";
 
-const NESTED: &[u8] =
-    b"vfs 1\n1 mkdir /a\n1 mkdir /a/b\n1 stat /a/b\n1 mkdir /x/y\n1 mkdir /\n1 stat /\n1 stat /x\nend\n";
-
-const NESTED_OUTPUT: &[u8] =
-    b"vfs output 1\n1 mkdir /a = ok\n1 mkdir /a/b = ok\n1 stat /a/b = stat dir 0\n1 mkdir /x/y = error ENOENT\n1 mkdir / = error EEXIST\n1 stat / = stat dir 0\n1 stat /x = error ENOENT\ntrees\nmount 0 mem on -\ndir 1 1 plain\nname a 2\ndir 2 1 plain\nname b 3\ndir 3 2 plain\nend\n";
-
 const CALLERS: &[u8] = b"vfs 1\nlimits 2 1 1 144\n2 mkdir /a\n1 stat /a\n1 mkdir /%20\nend\n";
 
 const CALLERS_OUTPUT: &[u8] =
-    b"vfs output 1\n1 stat /a = error ENOENT\n1 mkdir /%20 = ok\n2 mkdir /a = ok\ntrees\nmount 0 mem on -\ndir 1 1 plain\nname %20 2\nname a 3\ndir 2 1 plain\ndir 3 1 plain\nend\n";
+    b"vfs output 1\n2 mkdir /a = ok\n1 stat /a = stat dir 0\n1 mkdir /%20 = ok\ntrees\nmount 0 mem on -\ndir 1 1 plain\nname %20 3\nname a 2\ndir 2 1 plain\ndir 3 1 plain\nend\n";
+
+const UNION: &[u8] =
+    b"vfs 1\n1 mkdir /l\n1 open /l/f wc\n1 write 0 low\n1 close 0\n1 mkdir /u\n1 mountmem /u\n1 mountunion /u /l\n1 open /l/f r\n1 read 0 2\n2 open /l/f w\n2 pwrite 0 0 NEW\n1 pread 0 9 0\n1 unlink /l/f\n1 stat /l/f\n1 undelete /l/f\n1 umountforce /l\n1 pread 0 1 0\n1 close 0\nend\n";
+
+const UNION_OUTPUT: &[u8] =
+    b"vfs output 1\n1 mkdir /l = ok\n1 open /l/f wc = fd 0\n1 write 0 low = count 3\n1 close 0 = ok\n1 mkdir /u = ok\n1 mountmem /u = ok\n1 mountunion /u /l = ok\n1 open /l/f r = fd 0\n1 read 0 2 = data lo\n2 + copyup 2 1 f\n2 open /l/f w = fd 0\n2 pwrite 0 0 NEW = count 3\n1 pread 0 9 0 = data NEW\n1 unlink /l/f = ok\n1 stat /l/f = error ENOENT\n1 undelete /l/f = ok\n1 + detach 2\n1 + doom 1 fd 0\n1 umountforce /l = ok\n1 pread 0 1 0 = error EIO\n1 close 0 = ok\ntrees\nmount 0 mem on -\ndir 1 1 plain\nname l 2\nname u 4\ndir 2 1 plain\nname f 3\nfile 3 3 0:low\ndir 4 1 plain\nmount 1 mem on m0:4\ndir 1 1 plain\nend\n";
 
 fn words_of(alloc: Global, text: &str) -> Result<Vec<String>, AllocError> {
     let mut words = Vec::new(alloc);
@@ -41,21 +41,34 @@ fn run_of(alloc: Global, words: &str, script: &[u8]) -> Result<(Status, SureSink
 }
 
 #[test]
-fn scripts_are_run_or_refused(rt: HostRuntime) -> Result<(), Fail> {
+fn scripts_are_run(rt: HostRuntime) -> Result<(), Fail> {
     let alloc = rt.alloc();
-    let table: [(&[u8], u32, &[u8]); 8] = [
-        (EMPTY, 0, EMPTY_OUTPUT),
-        (SCRIPT, 0, OUTPUT),
-        (NESTED, 0, NESTED_OUTPUT),
-        (CALLERS, 0, CALLERS_OUTPUT),
-        (b"vfs 1\n1 mkdir a\nend\n", 65, b""),
-        (b"vfs 1\n1 unlink /a\nend\n", 65, b""),
-        (b"vfs 1\n1 mkdir /a\n1 mkd", 65, b""),
-        (b"", 65, b""),
+    let table = [
+        ("run --seed 1", EMPTY, EMPTY_OUTPUT),
+        ("run --seed 1", SCRIPT, OUTPUT),
+        ("run --order", CALLERS, CALLERS_OUTPUT),
+        ("run --order", UNION, UNION_OUTPUT),
     ];
-    for (script, code, output) in table {
-        let (status, sink) = run_of(alloc, "run --seed 1", script)?;
-        assert_eq!(rt; status, Status { code, line: 0 });
+    for (words, script, output) in table {
+        let (status, sink) = run_of(alloc, words, script)?;
+        assert_eq!(rt; status, Status { code: 0, line: 0 });
+        assert_eq!(rt; sink.bytes(), output);
+    }
+    Ok(())
+}
+
+#[test]
+fn bad_lines_are_told(rt: HostRuntime) -> Result<(), Fail> {
+    let alloc = rt.alloc();
+    let table: [(&[u8], u32, &[u8]); 4] = [
+        (b"vfs 1\n1 mkdir /a\n1 mkd", 3, b"bad line 3\n"),
+        (b"", 1, b"bad line 1\n"),
+        (b"vfs 1\n17 stat /\nend\n", 2, b"bad line 2\n"),
+        (b"vfs 1\nend\nend\n", 3, b"bad line 3\n"),
+    ];
+    for (script, line, output) in table {
+        let (status, sink) = run_of(alloc, "run --order", script)?;
+        assert_eq!(rt; status, Status { code: 65, line });
         assert_eq!(rt; sink.bytes(), output);
     }
     Ok(())
@@ -65,15 +78,18 @@ fn scripts_are_run_or_refused(rt: HostRuntime) -> Result<(), Fail> {
 fn words_are_taken_or_refused(rt: HostRuntime) -> Result<(), Fail> {
     let alloc = rt.alloc();
     let table = [
-        ("run --seed 1", 0),
         ("run --seed 0", 0),
         ("run --seed 18446744073709551615", 0),
         ("run --seed 18446744073709551616", 64),
         ("run --seed 01", 64),
         ("run --seed +1", 64),
         ("run --seed", 64),
-        ("run --seed 1 1", 64),
         ("run --fast", 64),
+        ("run", 64),
+        ("gen --seed 1 --calls 8", 0),
+        ("gen --seed 1 --calls 7", 64),
+        ("show --seed 1 --calls 4096", 0),
+        ("show --seed 1 --calls 4097", 64),
     ];
     for (words, code) in table {
         let (status, _sink) = run_of(alloc, words, EMPTY)?;
@@ -92,6 +108,26 @@ fn a_long_input_is_refused(rt: HostRuntime) -> Result<(), Fail> {
         let status = sure_main(alloc, &words, &mut source, &mut sink);
         assert_eq!(rt; status.code, code, "{len} bytes");
     }
+    Ok(())
+}
+
+#[test]
+fn a_shown_script_runs(rt: HostRuntime) -> Result<(), Fail> {
+    let alloc = rt.alloc();
+    let (_status, shown) = run_of(alloc, "show --seed 7 --calls 200", EMPTY)?;
+    let (status, _sink) = run_of(alloc, "run --order", shown.bytes())?;
+    assert_eq!(rt; status.code, 0);
+    Ok(())
+}
+
+#[test]
+fn a_summary_is_the_same_at_each_run(rt: HostRuntime) -> Result<(), Fail> {
+    let alloc = rt.alloc();
+    let (status, first) = run_of(alloc, "gen --seed 7 --calls 2000", EMPTY)?;
+    let (_status, second) = run_of(alloc, "gen --seed 7 --calls 2000", EMPTY)?;
+    assert_eq!(rt; status.code, 0);
+    assert_eq!(rt; first.bytes(), second.bytes());
+    assert!(rt; first.bytes().starts_with(b"calls 2000\n"));
     Ok(())
 }
 
@@ -132,39 +168,3 @@ fn each_failing_write_ends_the_run(rt: HostRuntime) -> Result<(), Fail> {
 }
 
 // A text with a word in its middle.
-fn around(alloc: Global, front: &[u8], word: &[u8], back: &[u8]) -> Result<Vec<u8>, AllocError> {
-    let mut text = Vec::from_slice(alloc, front)?;
-    text.extend_from_slice(word)?;
-    text.extend_from_slice(back)?;
-    Ok(text)
-}
-
-#[test]
-fn the_longest_name_is_made(rt: HostRuntime) -> Result<(), Fail> {
-    let alloc = rt.alloc();
-    let name = vec![in alloc; b'n'; 255]?;
-    let script = around(alloc, b"vfs 1\n1 mkdir /", &name, b"\nend\n")?;
-    let (status, sink) = run_of(alloc, "run --seed 1", &script)?;
-    assert_eq!(rt; status.code, 0);
-    let back = b"\ndir 2 1 plain\nend\n".as_slice();
-    let back = around(alloc, b" 2", back, b"")?;
-    let trees = b" = ok\ntrees\nmount 0 mem on -\ndir 1 1 plain\nname ".as_slice();
-    let front = around(alloc, b"vfs output 1\n1 mkdir /", &name, trees)?;
-    let output = around(alloc, &front, &name, &back)?;
-    assert_eq!(rt; sink.bytes(), output.as_slice());
-    Ok(())
-}
-
-#[test]
-fn the_longest_path_is_taken(rt: HostRuntime) -> Result<(), Fail> {
-    let alloc = rt.alloc();
-    // 1,023 bytes: slashes, and the name.
-    let path = around(alloc, &vec![in alloc; b'/'; 1_022]?, b"a", b"")?;
-    let script = around(alloc, b"vfs 1\n1 mkdir ", &path, b"\nend\n")?;
-    let (status, sink) = run_of(alloc, "run --seed 1", &script)?;
-    assert_eq!(rt; status.code, 0);
-    let trees = b" = ok\ntrees\nmount 0 mem on -\ndir 1 1 plain\nname a 2\ndir 2 1 plain\nend\n";
-    let output = around(alloc, b"vfs output 1\n1 mkdir ", &path, trees.as_slice())?;
-    assert_eq!(rt; sink.bytes(), output.as_slice());
-    Ok(())
-}

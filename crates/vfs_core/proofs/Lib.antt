@@ -1,2 +1,4 @@
+pub mod ComingLaws
+pub mod AdvancingLaws
 pub mod KernLaws
 pub mod TurnLaws

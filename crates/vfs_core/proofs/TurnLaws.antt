@@ -1,6 +1,6 @@
 -- What turns keep.
-use Rattle.std.proofs.Common.{◌≡◌, ℕ, ◌+◌, ◌*◌, ◌≤◌, arith, length, eq-eqb, Bool, true, false, ◌==◌, ◌++◌, List, [], ◌∷◌, refl, ap, sym, ◌∙◌, subst, cond, append_assoc, inl, inr}
-use Rattle.std.specs.Prelude.{Option, Some, None, IsSome, IfSome, is_some, unwrap_or}
+use Rattle.std.proofs.Common.{◌≡◌, ℕ, zero, suc, ◌+◌, ◌*◌, ◌<◌, ◌≤◌, arith, length, eq-eqb, Bool, true, false, not, ◌==◌, ◌++◌, List, [], ◌∷◌, refl, ap, sym, ◌∙◌, subst, cond, append_assoc, inl, inr, map, take, drop, get_or, length-append}
+use Rattle.std.specs.Prelude.{Result, Ok, Err, OnOk, Option, Some, None, IsSome, is_some, unwrap_or}
 use Rattle.std.specs.Option.{option_to_list}
 use Rattle.std.specs.List.{AllByRecursion}
 use Rattle.std.specs.Ordering.{nat_cmp, eq_by_cmp, is_eq}
@@ -8,30 +8,34 @@ use Rattle.std.specs.Cmp.{nat_cmp_total, unsigned_ties}
 use Rattle.std.specs.FinMap.{FinMap, get, insert, remove, empty, get-empty, get-insert, get-remove}
 use Rattle.std.proofs.lemmas.Bool.Decides.{eqb_tells}
 use Rattle.std.proofs.lemmas.List.{append-nil}
+use Rattle.std.proofs.lemmas.Option.{same_Some}
 use Rattle.std.proofs.lemmas.Cmp.{tied_itself}
 use Rattle.std.proofs.lemmas.Map.Lookups.{exact_unsigned}
-use Rattle.finite_maps.proofs.EntryLaws.{by_key, insert_same}
+use Rattle.finite_maps.proofs.EntryLaws.{by_key, insert_same, remove-insert, get_at-insert}
 use Rattle.vfs_tree.specs.Limits.{IsCaller}
 use Rattle.vfs_tree.specs.Start.{start_world}
 use Rattle.vfs_tree.specs.declared.limits.Limits.{Limits}
-use Rattle.call_model.specs.Apply.{is_served}
 use Rattle.call_model.specs.Legal.{Pending, Extends, IsLegal, calls_of, calls_in}
 use Rattle.call_model.specs.declared.call.Call.{Call}
+use Rattle.call_model.specs.declared.call.Line.{Line}
 use Rattle.call_model.specs.declared.entry.Entry.{Entry}
 use Rattle.call_model.specs.declared.entry.Entry.TheVariants as entry
+use Rattle.call_model.specs.declared.entry.Inner.{Inner}
+use Rattle.call_model.specs.declared.entry.Ref.{Ref}
 use Rattle.call_model.specs.declared.reply.Reply.{Reply}
-use Rattle.call_model.proofs.HistoryLaws.{calls_of-append, legal-begin}
-use Rattle.vfs_core.specs.Kernel.{Kernel}
+use Rattle.call_model.proofs.HistoryLaws.{legal-begin}
+use Rattle.vfs_core.specs.Kernel.{Kernel, work}
 use Rattle.vfs_core.specs.Queues.{Queues, queue_at, BeginsNext}
-use Rattle.vfs_core.specs.Stepping.{Steps}
+use Rattle.vfs_core.specs.Stepping.{Steps, dooms}
 use Rattle.vfs_core.specs.Work.{Work, IsRunning}
-use Rattle.vfs_core.specs.Turning.{calls_with, Turns, FitsJob, RunsCaller, RunsTo, IsDone}
+use Rattle.vfs_core.specs.Turning.{calls_with, Turns, Begins, FitsJob, Runs, IsDone, HasLeft, is_ready, ready_to, caller_work, work_to, calls_left, pace_of, Paces, lines_of, GoesOn, Ends, HasRun, RunsLine, StartsLine, RunsLines}
 use Rattle.vfs_core.specs.Filling.{IsFilled}
-use Rattle.call_model.specs.declared.call.Line.{Line}
 use Rattle.vfs_core.specs.declared.job.Turned.{Turned}
 use Rattle.vfs_core.specs.declared.job.Turned.TheVariants as turned
 use Rattle.vfs_core.specs.declared.kern.Stepped.{Stepped}
 use Rattle.vfs_core.specs.declared.kern.Stepped.TheVariants as stepped
+use Rattle.vfs_core.specs.declared.queue.Begun.{Begun}
+use Rattle.vfs_core.specs.declared.queue.Begun.TheVariants as begun
 
 test_same : (x y : ℕ) → eq_by_cmp nat_cmp x y ≡ (x == y)
 test_same x y = sym (unsigned_ties x y)
@@ -57,17 +61,37 @@ began_keeps h p q c d call rest idle next =
     let both : option_to_list (cond (d == c) (Some call) (get p d)) ++ unwrap_or (cond (d == c) (Some rest) (get q d)) [] ≡ option_to_list (get p d) ++ queue_at q d = by_caller c d goal here refl in
     ap (λ (t : List Call). calls_of d h ++ t) (ap (λ o. option_to_list o ++ queue_at (insert q c rest) d) (get-put p c call d) ∙ ap (λ o. option_to_list (cond (d == c) (Some call) (get p d)) ++ unwrap_or o []) (get-put q c rest d) ∙ both)
 
+-- ---- entries more
+
+pub calls_append : (d : ℕ) (h more : List Entry) → calls_of d (h ++ more) ≡ calls_of d h ++ calls_of d more
+calls_append d [] more = refl
+calls_append d (entry.Call e k s ∷ es) more =
+    elim (d == e) as (λ b. cond b (k ∷ calls_of d (es ++ more)) (calls_of d (es ++ more)) ≡ cond b (k ∷ calls_of d es) (calls_of d es) ++ calls_of d more) [
+      | true ↦ ap (λ (t : List Call). k ∷ t) (calls_append d es more)
+      | false ↦ calls_append d es more
+    ]
+calls_append d (entry.Inner e x ∷ es) more = calls_append d es more
+
+-- an inner entry is no call
+inner_keeps : (d : ℕ) (h : List Entry) (c : ℕ) (x : Inner) → calls_of d (h ++ entry.Inner c x ∷ []) ≡ calls_of d h
+inner_keeps d h c x = calls_append d h (entry.Inner c x ∷ []) ∙ append-nil (calls_of d h)
+
+-- and no doom is one
+dooms_keep : (d c : ℕ) (ats : List Ref) (es : List Entry) → calls_of d (dooms c ats ++ es) ≡ calls_of d es
+dooms_keep d c [] es = refl
+dooms_keep d c (at ∷ ats) es = dooms_keep d c ats es
+
 -- ---- a call ends
 
-ended_keeps : (h : List Entry) (p : Pending) (q : Queues) (c d : ℕ) (call : Call) (r : Reply) → get p c ≡ Some call
-    → calls_of d (h ++ entry.Call c call r ∷ []) ++ (option_to_list (get (remove p c) d) ++ queue_at q d) ≡ calls_of d h ++ (option_to_list (get p d) ++ queue_at q d)
-ended_keeps h p q c d call r its =
+pub ended_keeps : (h more : List Entry) (p : Pending) (q : Queues) (c d : ℕ) (call : Call) → get p c ≡ Some call → calls_of d more ≡ cond (d == c) (call ∷ []) []
+    → calls_of d (h ++ more) ++ (option_to_list (get (remove p c) d) ++ queue_at q d) ≡ calls_of d h ++ (option_to_list (get p d) ++ queue_at q d)
+ended_keeps h more p q c d call its one =
     let goal : Bool → Type 0 = λ b. (calls_of d h ++ cond b (call ∷ []) []) ++ (option_to_list (cond b None (get p d)) ++ queue_at q d) ≡ calls_of d h ++ (option_to_list (get p d) ++ queue_at q d) in
     let here : d ≡ c → (calls_of d h ++ (call ∷ [])) ++ queue_at q d ≡ calls_of d h ++ (option_to_list (get p d) ++ queue_at q d) = λ e.
     append_assoc (calls_of d h) (call ∷ []) (queue_at q d) ∙ ap (λ o. calls_of d h ++ (option_to_list o ++ queue_at q d)) (sym (ap (λ x. get p x) e ∙ its))
     in
     let there : (calls_of d h ++ []) ++ (option_to_list (get p d) ++ queue_at q d) ≡ calls_of d h ++ (option_to_list (get p d) ++ queue_at q d) = ap (λ (t : List Call). t ++ (option_to_list (get p d) ++ queue_at q d)) (append-nil (calls_of d h)) in
-    ap (λ (t : List Call). t ++ (option_to_list (get (remove p c) d) ++ queue_at q d)) (calls_of-append d c h call r)
+    ap (λ (t : List Call). t ++ (option_to_list (get (remove p c) d) ++ queue_at q d)) (calls_append d h more ∙ ap (λ (t : List Call). calls_of d h ++ t) one)
     ∙ ap (λ o. (calls_of d h ++ cond (d == c) (call ∷ []) []) ++ (option_to_list o ++ queue_at q d)) (get-taken p c d)
     ∙ by_caller c d goal here there
 
@@ -78,10 +102,15 @@ pub turn_keeps_calls : (old new : Work) (c : ℕ) (r : Turned) → Turns old new
 turn_keeps_calls old new c turned.Idle h d = ap (λ (j : Work). calls_with j d) h.2
 turn_keeps_calls old new c turned.NoMemory h d = ap (λ (j : Work). calls_with j d) h.4
 turn_keeps_calls old new c turned.Began h d = ap (λ (j : Work). calls_with j d) h.4 ∙ began_keeps old.kern.history old.kern.pending old.left c d h.0 h.1 h.2 h.3
+turn_keeps_calls old new c (turned.Did stepped.Went) h d =
+    ap (λ (k : Kernel). calls_of d k.history ++ (option_to_list (get k.pending d) ++ queue_at new.left d)) h.0.1
+    ∙ ap (λ (q : Queues). calls_of d (old.kern.history ++ entry.Inner c h.0.0 ∷ []) ++ (option_to_list (get old.kern.pending d) ++ queue_at q d)) h.1
+    ∙ ap (λ (t : List Call). t ++ (option_to_list (get old.kern.pending d) ++ queue_at old.left d)) (inner_keeps d old.kern.history c h.0.0)
 turn_keeps_calls old new c (turned.Did (stepped.Ended reply)) h d =
-    ap (λ (k : Kernel). calls_of d k.history ++ (option_to_list (get k.pending d) ++ queue_at new.left d)) h.0.2
-    ∙ ap (λ (q : Queues). calls_of d (old.kern.history ++ entry.Call c h.0.0 reply ∷ []) ++ (option_to_list (get (remove old.kern.pending c) d) ++ queue_at q d)) h.1
-    ∙ ended_keeps old.kern.history old.kern.pending old.left c d h.0.0 reply h.0.1
+    let more : List Entry = dooms c h.0.1 ++ entry.Call c h.0.0 reply ∷ [] in
+    ap (λ (k : Kernel). calls_of d k.history ++ (option_to_list (get k.pending d) ++ queue_at new.left d)) h.0.3
+    ∙ ap (λ (q : Queues). calls_of d (old.kern.history ++ more) ++ (option_to_list (get (remove old.kern.pending c) d) ++ queue_at q d)) h.1
+    ∙ ended_keeps old.kern.history more old.kern.pending old.left c d h.0.0 h.0.2 (dooms_keep d c h.0.1 (entry.Call c h.0.0 reply ∷ []))
 
 same_history : (old new : List Entry) → new ≡ old → Extends old new
 same_history old new e = record { more = []; is = e ∙ sym (append-nil old) }
@@ -91,7 +120,14 @@ pub turn_extends : (old new : Work) (c : ℕ) (r : Turned) → Turns old new c r
 turn_extends old new c turned.Idle h = same_history _ _ (ap (λ (j : Work). j.kern.history) h.2)
 turn_extends old new c turned.NoMemory h = same_history _ _ (ap (λ (j : Work). j.kern.history) h.4)
 turn_extends old new c turned.Began h = same_history _ _ (ap (λ (j : Work). j.kern.history) h.4)
-turn_extends old new c (turned.Did (stepped.Ended reply)) h = record { more = entry.Call c h.0.0 reply ∷ []; is = ap (λ (k : Kernel). k.history) h.0.2 }
+turn_extends old new c (turned.Did stepped.Went) h = record { more = entry.Inner c h.0.0 ∷ []; is = ap (λ (k : Kernel). k.history) h.0.1 }
+turn_extends old new c (turned.Did (stepped.Ended reply)) h = record { more = dooms c h.0.1 ++ entry.Call c h.0.0 reply ∷ []; is = ap (λ (k : Kernel). k.history) h.0.3 }
+
+-- what begins is a turn
+pub begins_turn : (old new : Work) (c : ℕ) (b : Begun) → Begins old new c b → (r : Turned) × Turns old new c r
+begins_turn old new c begun.Idle h = (turned.Idle, h)
+begins_turn old new c begun.NoMemory h = (turned.NoMemory, h)
+begins_turn old new c begun.Began h = (turned.Began, h)
 
 -- ---- what a job keeps
 
@@ -102,15 +138,10 @@ taken-each : {X : Type 0} (P : ℕ → Option X → Type 0) (m : FinMap nat_cmp 
 taken-each P m k gone there c = subst (P c) (sym (get-remove nat_cmp_total m k c))
     (elim (eq_by_cmp nat_cmp c k) as (λ b. P c (cond b None (get m c))) [ true ↦ gone c | false ↦ there c ])
 
--- the rest of a queue of served calls is of served calls
-served_rest : (o : Option (List Call)) (call : Call) (rest : List Call) → unwrap_or o [] ≡ call ∷ rest → IfSome o (λ calls. AllByRecursion (λ k. is_served k ≡ true) calls) → AllByRecursion (λ k. is_served k ≡ true) rest
-served_rest (Some calls) call rest e h = let all : AllByRecursion (λ k. is_served k ≡ true) (call ∷ rest) = subst (λ (x : List Call). AllByRecursion (λ k. is_served k ≡ true) x) e h in all.1
-served_rest None call rest e h = absurd cc
-
 -- a call of a caller begins
-pub running-began : (k : Kernel) (p : Queues) (n : Kernel) (q : Queues) (c : ℕ) (call : Call) (rest : List Call) → IsRunning k p → IsCaller k.limits c → queue_at p c ≡ call ∷ rest
-    → n ≡ record k { pending = insert k.pending c call } → q ≡ insert p c rest → IsLegal n.pending (start_world n.limits) n.history → IsRunning n q
-running-began k p n q c call rest running caller next is put legal =
+pub running-began : (k : Kernel) (p : Queues) (o : List ℕ) (n : Kernel) (q : Queues) (c : ℕ) (call : Call) (rest : List Call) → IsRunning k p o → IsCaller k.limits c
+    → n ≡ record k { pending = insert k.pending c call } → q ≡ insert p c rest → IsLegal n.pending (start_world n.limits) n.history → IsRunning n q o
+running-began k p o n q c call rest running caller is put legal =
     let limits : n.limits ≡ k.limits = ap (λ (x : Kernel). x.limits) is in
     let live : (d : ℕ) → IsSome (get n.pending d) → IsCaller k.limits d = subst (λ (x : Pending). (d : ℕ) → IsSome (get x d) → IsCaller k.limits d) (sym (ap (λ (x : Kernel). x.pending) is)) (put-each (λ d o. IsSome o → IsCaller k.limits d) k.pending c call (λ _. caller) running.live) in
     let within : (d : ℕ) → IsSome (get q d) → IsCaller k.limits d = subst (λ (x : Queues). (d : ℕ) → IsSome (get x d) → IsCaller k.limits d) (sym put) (put-each (λ d o. IsSome o → IsCaller k.limits d) p c rest (λ _. caller) running.within) in
@@ -118,21 +149,35 @@ running-began k p n q c call rest running caller next is put legal =
       legal = legal;
       live = subst (λ (l : Limits). (d : ℕ) → IsSome (get n.pending d) → IsCaller l d) (sym limits) live;
       within = subst (λ (l : Limits). (d : ℕ) → IsSome (get q d) → IsCaller l d) (sym limits) within;
-      served = subst (λ (x : Queues). (d : ℕ) → IfSome (get x d) (λ calls. AllByRecursion (λ call. is_served call ≡ true) calls)) (sym put)
-          (put-each (λ d o. IfSome o (λ calls. AllByRecursion (λ call. is_served call ≡ true) calls)) p c rest (served_rest (get p c) call rest next (running.served c)) running.served);
+      lines = subst (λ (l : Limits). AllByRecursion (IsCaller l) o) (sym limits) running.lines;
     }
 
--- a step of a caller
-pub running-stepped : (k n : Kernel) (p : Queues) (c : ℕ) (s : Stepped) → IsRunning k p → Steps k n c s → IsLegal n.pending (start_world n.limits) n.history → IsRunning n p
-running-stepped k n p c (stepped.Ended reply) running h legal =
-    let limits : n.limits ≡ k.limits = ap (λ (x : Kernel). x.limits) h.2 in
-    let live : (d : ℕ) → IsSome (get n.pending d) → IsCaller k.limits d = subst (λ (x : Pending). (d : ℕ) → IsSome (get x d) → IsCaller k.limits d) (sym (ap (λ (x : Kernel). x.pending) h.2)) (taken-each (λ d o. IsSome o → IsCaller k.limits d) k.pending c (λ d none. absurd (let clash : false ≡ true = none in cc)) running.live) in
+-- a live call ended
+pub running-ended : (k n : Kernel) (p : Queues) (o : List ℕ) (c : ℕ) → IsRunning k p o → n.limits ≡ k.limits → n.pending ≡ remove k.pending c → IsLegal n.pending (start_world n.limits) n.history → IsRunning n p o
+running-ended k n p o c running limits taken legal =
+    let live : (d : ℕ) → IsSome (get n.pending d) → IsCaller k.limits d = subst (λ (x : Pending). (d : ℕ) → IsSome (get x d) → IsCaller k.limits d) (sym taken) (taken-each (λ d o. IsSome o → IsCaller k.limits d) k.pending c (λ d none. absurd (let clash : false ≡ true = none in cc)) running.live) in
     record {
       legal = legal;
       live = subst (λ (l : Limits). (d : ℕ) → IsSome (get n.pending d) → IsCaller l d) (sym limits) live;
       within = subst (λ (l : Limits). (d : ℕ) → IsSome (get p d) → IsCaller l d) (sym limits) running.within;
-      served = running.served;
+      lines = subst (λ (l : Limits). AllByRecursion (IsCaller l) o) (sym limits) running.lines;
     }
+
+-- a live call went on
+running-went : (k n : Kernel) (p : Queues) (o : List ℕ) → IsRunning k p o → n.limits ≡ k.limits → n.pending ≡ k.pending → IsLegal n.pending (start_world n.limits) n.history → IsRunning n p o
+running-went k n p o running limits same legal =
+    let live : (d : ℕ) → IsSome (get n.pending d) → IsCaller k.limits d = subst (λ (x : Pending). (d : ℕ) → IsSome (get x d) → IsCaller k.limits d) (sym same) running.live in
+    record {
+      legal = legal;
+      live = subst (λ (l : Limits). (d : ℕ) → IsSome (get n.pending d) → IsCaller l d) (sym limits) live;
+      within = subst (λ (l : Limits). (d : ℕ) → IsSome (get p d) → IsCaller l d) (sym limits) running.within;
+      lines = subst (λ (l : Limits). AllByRecursion (IsCaller l) o) (sym limits) running.lines;
+    }
+
+-- a step of a caller
+pub running-stepped : (k n : Kernel) (p : Queues) (o : List ℕ) (c : ℕ) (s : Stepped) → IsRunning k p o → Steps k n c s → IsLegal n.pending (start_world n.limits) n.history → IsRunning n p o
+running-stepped k n p o c stepped.Went running h legal = running-went k n p o running (ap (λ (x : Kernel). x.limits) h.1) (ap (λ (x : Kernel). x.pending) h.1) legal
+running-stepped k n p o c (stepped.Ended reply) running h legal = running-ended k n p o c running (ap (λ (x : Kernel). x.limits) h.3) (ap (λ (x : Kernel). x.pending) h.3) legal
 
 -- ---- the next call of a queue
 
@@ -143,58 +188,41 @@ left_same p q c old new was put same = put (ap is_some (sym was)) ∙ ap (insert
 lent_at : (p : Queues) (c : ℕ) (old : List Call) → Some old ≡ get p c → queue_at p c ≡ old
 lent_at p c old was = ap (λ o. unwrap_or o []) (sym was)
 
--- what a turn without a live call does
-pub turned-next : (k n : Kernel) (p q : Queues) (c : ℕ) (old new : List Call) (r : Turned) → get k.pending c ≡ None → Some old ≡ get p c → (IsSome (get p c) → q ≡ insert p c new) → BeginsNext old new k n c r
-    → Turns (record { kern = k; left = p }) (record { kern = n; left = q }) c r
-turned-next k n p q c old new turned.Idle idle was put h =
-    (idle, lent_at p c old was ∙ h.0, λ i. record { kern = h.2 i; left = left_same p q c old new was put h.1 i })
-turned-next k n p q c old new turned.NoMemory idle was put h =
-    (h.0, h.1, idle, lent_at p c old was ∙ h.2, λ i. record { kern = h.4 i; left = left_same p q c old new was put h.3 i })
-turned-next k n p q c old new turned.Began idle was put h =
+-- what begins, where the caller has no live call
+pub begins-next : (k n : Kernel) (p q : Queues) (o : List ℕ) (c : ℕ) (old new : List Call) (r : Begun) → get k.pending c ≡ None → Some old ≡ get p c → (IsSome (get p c) → q ≡ insert p c new) → BeginsNext old new k n c r
+    → Begins (record { kern = k; left = p; order = o }) (record { kern = n; left = q; order = o }) c r
+begins-next k n p q o c old new begun.Idle idle was put h =
+    (idle, lent_at p c old was ∙ h.0, λ i. record { kern = h.2 i; left = left_same p q c old new was put h.1 i; order = o })
+begins-next k n p q o c old new begun.NoMemory idle was put h =
+    (h.0, h.1, idle, lent_at p c old was ∙ h.2, λ i. record { kern = h.4 i; left = left_same p q c old new was put h.3 i; order = o })
+begins-next k n p q o c old new begun.Began idle was put h =
     let left : q ≡ insert p c h.1 = put (ap is_some (sym was)) ∙ ap (insert p c) h.3 in
-    (h.0, h.1, idle, lent_at p c old was ∙ h.2, λ i. record { kern = h.4 i; left = left i })
-turned-next k n p q c old new (turned.Did s) idle was put h = absurd h
+    (h.0, h.1, idle, lent_at p c old was ∙ h.2, λ i. record { kern = h.4 i; left = left i; order = o })
 
--- what a turn keeps, where the caller has no live call
-pub running-next : (k n : Kernel) (p q : Queues) (c : ℕ) (old new : List Call) (r : Turned) → IsRunning k p → IsCaller k.limits c → get k.pending c ≡ None → Some old ≡ get p c → (IsSome (get p c) → q ≡ insert p c new) → BeginsNext old new k n c r → IsRunning n q
-running-next k n p q c old new turned.Idle running caller idle was put h =
-    subst (λ (x : Kernel). IsRunning x q) (sym h.2) (subst (λ (x : Queues). IsRunning k x) (sym (left_same p q c old new was put h.1)) running)
-running-next k n p q c old new turned.NoMemory running caller idle was put h =
-    subst (λ (x : Kernel). IsRunning x q) (sym h.4) (subst (λ (x : Queues). IsRunning k x) (sym (left_same p q c old new was put h.3)) running)
-running-next k n p q c old new turned.Began running caller idle was put h =
+-- what it keeps
+pub running-next : (k n : Kernel) (p q : Queues) (o : List ℕ) (c : ℕ) (old new : List Call) (r : Begun) → IsRunning k p o → IsCaller k.limits c → get k.pending c ≡ None → Some old ≡ get p c → (IsSome (get p c) → q ≡ insert p c new) → BeginsNext old new k n c r → IsRunning n q o
+running-next k n p q o c old new begun.Idle running caller idle was put h =
+    subst (λ (x : Kernel). IsRunning x q o) (sym h.2) (subst (λ (x : Queues). IsRunning k x o) (sym (left_same p q c old new was put h.1)) running)
+running-next k n p q o c old new begun.NoMemory running caller idle was put h =
+    subst (λ (x : Kernel). IsRunning x q o) (sym h.4) (subst (λ (x : Queues). IsRunning k x o) (sym (left_same p q c old new was put h.3)) running)
+running-next k n p q o c old new begun.Began running caller idle was put h =
     let left : q ≡ insert p c h.1 = put (ap is_some (sym was)) ∙ ap (insert p c) h.3 in
     let begun : IsLegal (insert k.pending c h.0) (start_world k.limits) k.history = legal-begin k.pending (start_world k.limits) k.history c h.0 idle running.legal in
     let legal : IsLegal n.pending (start_world n.limits) n.history = subst (λ (x : Kernel). IsLegal x.pending (start_world x.limits) x.history) (sym h.4) begun in
-    running-began k p n q c h.0 h.1 running caller (lent_at p c old was ∙ h.2) h.4 left legal
-running-next k n p q c old new (turned.Did s) running caller idle was put h = absurd h
-
--- a caller whose queue isn't there has none left
-pub turned-none : (k : Kernel) (p q : Queues) (c : ℕ) → get k.pending c ≡ None → get p c ≡ None → q ≡ p → Turns (record { kern = k; left = p }) (record { kern = k; left = q }) c turned.Idle
-turned-none k p q c idle none same = (idle, ap (λ o. unwrap_or o []) none, λ i. record { kern = k; left = same i })
-
-pub none_of : {X : Type 0} (o : Option X) (b : Bool) → b ≡ is_some o → b ≡ false → o ≡ None
-none_of None b e f = refl
-none_of (Some x) b e f = absurd (let clash : true ≡ false = sym e ∙ f in cc)
+    running-began k p o n q c h.0 h.1 running caller h.4 left legal
 
 -- ---- the queues of a job are filled
 
-all_snoc : (xs : List Call) (x : Call) → AllByRecursion (λ k. is_served k ≡ true) xs → is_served x ≡ true → AllByRecursion (λ k. is_served k ≡ true) (xs ++ x ∷ [])
-all_snoc [] x h served = (served, tt)
-all_snoc (y ∷ xs) x h served = (h.0, all_snoc xs x h.1 served)
-
-served_queue : (o : Option (List Call)) → IfSome o (λ calls. AllByRecursion (λ k. is_served k ≡ true) calls) → AllByRecursion (λ k. is_served k ≡ true) (unwrap_or o [])
-served_queue (Some calls) h = h
-served_queue None h = tt
-
 -- no line is queued
-pub filled-start : (limits : Limits) (q : Queues) (lines rest : List Line) → q ≡ empty → rest ≡ lines → AllByRecursion (FitsJob limits) lines → IsFilled limits q lines rest
-filled-start limits q lines rest none all fits =
+pub filled-start : (limits : Limits) (q : Queues) (o : List ℕ) (lines rest : List Line) → q ≡ empty → o ≡ [] → rest ≡ lines → AllByRecursion (FitsJob limits) lines → IsFilled limits q o lines rest
+filled-start limits q o lines rest none first all fits =
     let gone : (c : ℕ) → get q c ≡ None = λ c. ap (λ m. get m c) none ∙ get-empty nat_cmp c in
     record {
       calls = λ c. ap (λ o. unwrap_or o [] ++ calls_in c rest) (gone c) ∙ ap (calls_in c) all;
+      callers = ap (λ (x : List ℕ). x ++ map (λ (l : Line). l.caller) rest) first ∙ ap (λ (x : List Line). map (λ (l : Line). l.caller) x) all;
       fits = subst (λ (x : List Line). AllByRecursion (FitsJob limits) x) (sym all) fits;
       within = λ c there. absurd (let clash : false ≡ true = sym (ap is_some (gone c)) ∙ there in cc);
-      served = λ c. subst (λ o. IfSome o (λ calls. AllByRecursion (λ k. is_served k ≡ true) calls)) (sym (gone c)) tt;
+      runners = subst (λ (x : List ℕ). AllByRecursion (IsCaller limits) x) (sym first) tt;
     }
 
 queued : (q : Queues) (k c : ℕ) (call : Call) (rest : List Line) → queue_at (insert q k (queue_at q k ++ call ∷ [])) c ++ calls_in c rest ≡ queue_at q c ++ calls_in c (record { caller = k; call = call } ∷ rest)
@@ -205,31 +233,43 @@ queued q k c call rest =
     in
     ap (λ o. unwrap_or o [] ++ calls_in c rest) (get-put q k (queue_at q k ++ call ∷ []) c) ∙ by_caller k c goal here refl
 
+all_snoc : {X : Type 0} (P : X → Type 0) (xs : List X) (x : X) → AllByRecursion P xs → P x → AllByRecursion P (xs ++ x ∷ [])
+all_snoc P [] x h here = (here, tt)
+all_snoc P (y ∷ xs) x h here = (h.0, all_snoc P xs x h.1 here)
+
 -- one line more is queued
-pub filled-next : (limits : Limits) (q r : Queues) (lines rest rest' : List Line) (k : ℕ) (call : Call) → IsFilled limits q lines rest → rest ≡ record { caller = k; call = call } ∷ rest' → r ≡ insert q k (queue_at q k ++ call ∷ []) → IsFilled limits r lines rest'
-filled-next limits q r lines rest rest' k call filled is put =
+pub filled-next : (limits : Limits) (q r : Queues) (o o' : List ℕ) (lines rest rest' : List Line) (k : ℕ) (call : Call) → IsFilled limits q o lines rest → rest ≡ record { caller = k; call = call } ∷ rest'
+    → r ≡ insert q k (queue_at q k ++ call ∷ []) → o' ≡ o ++ k ∷ [] → IsFilled limits r o' lines rest'
+filled-next limits q r o o' lines rest rest' k call filled is put pushed =
     let fits : AllByRecursion (FitsJob limits) (record { caller = k; call = call } ∷ rest') = subst (λ (x : List Line). AllByRecursion (FitsJob limits) x) is filled.fits in
-    let all : AllByRecursion (λ k. is_served k ≡ true) (queue_at q k ++ call ∷ []) = all_snoc (queue_at q k) call (served_queue (get q k) (filled.served k)) fits.0.served in
     record {
       calls = λ c. ap (λ (x : Queues). queue_at x c ++ calls_in c rest') put ∙ queued q k c call rest' ∙ ap (λ (x : List Line). queue_at q c ++ calls_in c x) (sym is) ∙ filled.calls c;
+      callers = ap (λ (x : List ℕ). x ++ map (λ (l : Line). l.caller) rest') pushed ∙ append_assoc o (k ∷ []) (map (λ (l : Line). l.caller) rest')
+          ∙ ap (λ (x : List Line). o ++ map (λ (l : Line). l.caller) x) (sym is) ∙ filled.callers;
       fits = fits.1;
-      within = subst (λ (x : Queues). (c : ℕ) → IsSome (get x c) → IsCaller limits c) (sym put) (put-each (λ c o. IsSome o → IsCaller limits c) q k (queue_at q k ++ call ∷ []) (λ _. fits.0.caller) filled.within);
-      served = subst (λ (x : Queues). (c : ℕ) → IfSome (get x c) (λ calls. AllByRecursion (λ k. is_served k ≡ true) calls)) (sym put)
-          (put-each (λ c o. IfSome o (λ calls. AllByRecursion (λ k. is_served k ≡ true) calls)) q k (queue_at q k ++ call ∷ []) all filled.served);
+      within = subst (λ (x : Queues). (c : ℕ) → IsSome (get x c) → IsCaller limits c) (sym put) (put-each (λ c o. IsSome o → IsCaller limits c) q k (queue_at q k ++ call ∷ []) (λ _. fits.0) filled.within);
+      runners = subst (λ (x : List ℕ). AllByRecursion (IsCaller limits) x) (sym pushed) (all_snoc (IsCaller limits) o k filled.runners fits.0);
     }
 
 -- a job whose queues are filled
-pub filled_calls : (k : Kernel) (q : Queues) (lines rest : List Line) → k.pending ≡ empty → IsFilled k.limits q lines rest → rest ≡ [] → (c : ℕ) → calls_with (record { kern = k; left = q }) c ≡ calls_of c k.history ++ calls_in c lines
-filled_calls k q lines rest idle filled none c =
+pub filled_calls : (k : Kernel) (q : Queues) (o : List ℕ) (lines rest : List Line) → k.pending ≡ empty → IsFilled k.limits q o lines rest → rest ≡ [] → (c : ℕ) → calls_with (record { kern = k; left = q; order = o }) c ≡ calls_of c k.history ++ calls_in c lines
+filled_calls k q o lines rest idle filled none c =
     ap (λ o. calls_of c k.history ++ (option_to_list o ++ queue_at q c)) (ap (λ m. get m c) idle ∙ get-empty nat_cmp c)
     ∙ ap (λ (t : List Call). calls_of c k.history ++ t) (sym (append-nil (queue_at q c)) ∙ ap (λ (x : List Line). queue_at q c ++ calls_in c x) (sym none) ∙ filled.calls c)
 
-pub filled_runs : (k : Kernel) (q : Queues) (lines rest : List Line) → k.pending ≡ empty → IsFilled k.limits q lines rest → IsLegal k.pending (start_world k.limits) k.history → IsRunning k q
-filled_runs k q lines rest idle filled legal = record {
+pub filled_left : (k : Kernel) (q : Queues) (o : List ℕ) (lines rest : List Line) → k.pending ≡ empty → IsFilled k.limits q o lines rest → rest ≡ [] → HasLeft lines (record { kern = k; left = q; order = o })
+filled_left k q o lines rest idle filled none = record {
+  idle = idle;
+  order = sym (append-nil o) ∙ ap (λ (x : List Line). o ++ map (λ (l : Line). l.caller) x) (sym none) ∙ filled.callers;
+  left = λ c. sym (append-nil (queue_at q c)) ∙ ap (λ (x : List Line). queue_at q c ++ calls_in c x) (sym none) ∙ filled.calls c;
+}
+
+pub filled_runs : (k : Kernel) (q : Queues) (o : List ℕ) (lines rest : List Line) → k.pending ≡ empty → IsFilled k.limits q o lines rest → IsLegal k.pending (start_world k.limits) k.history → IsRunning k q o
+filled_runs k q o lines rest idle filled legal = record {
   legal = legal;
   live = λ c there. absurd (let clash : false ≡ true = sym (ap is_some (ap (λ m. get m c) idle ∙ get-empty nat_cmp c)) ∙ there in cc);
   within = filled.within;
-  served = filled.served;
+  lines = filled.runners;
 }
 
 pub no_items : {X : Type 0} (xs : List X) → length xs ≡ 0 → xs ≡ []
@@ -241,46 +281,42 @@ no_items (x ∷ xs) e = absurd (omega (arith, e))
 extends-more : (a b c : List Entry) → Extends a b → Extends b c → Extends a c
 extends-more a b c p q = record { more = p.more ++ q.more; is = q.is ∙ ap (λ (t : List Entry). t ++ q.more) p.is ∙ append_assoc a p.more q.more }
 
-pub extends-none : (a : List Entry) → Extends a a
-extends-none a = same_history a a refl
-
 turn_limits : (old new : Work) (c : ℕ) (r : Turned) → Turns old new c r → new.kern.limits ≡ old.kern.limits
 turn_limits old new c turned.Idle h = ap (λ (j : Work). j.kern.limits) h.2
 turn_limits old new c turned.NoMemory h = ap (λ (j : Work). j.kern.limits) h.4
 turn_limits old new c turned.Began h = ap (λ (j : Work). j.kern.limits) h.4
-turn_limits old new c (turned.Did (stepped.Ended reply)) h = ap (λ (k : Kernel). k.limits) h.0.2
+turn_limits old new c (turned.Did stepped.Went) h = ap (λ (k : Kernel). k.limits) h.0.1
+turn_limits old new c (turned.Did (stepped.Ended reply)) h = ap (λ (k : Kernel). k.limits) h.0.3
 
-turn_others_live : (old new : Work) (c : ℕ) (r : Turned) → Turns old new c r → (d : ℕ) → (d == c) ≡ false → get new.kern.pending d ≡ get old.kern.pending d
-turn_others_live old new c turned.Idle h d other = ap (λ (j : Work). get j.kern.pending d) h.2
-turn_others_live old new c turned.NoMemory h d other = ap (λ (j : Work). get j.kern.pending d) h.4
-turn_others_live old new c turned.Began h d other = ap (λ (j : Work). get j.kern.pending d) h.4 ∙ get-put old.kern.pending c h.0 d ∙ ap (λ b. cond b (Some h.0) (get old.kern.pending d)) other
-turn_others_live old new c (turned.Did (stepped.Ended reply)) h d other = ap (λ (k : Kernel). get k.pending d) h.0.2 ∙ get-taken old.kern.pending c d ∙ ap (λ b. cond b None (get old.kern.pending d)) other
+pub runs_none : (job : Work) → Runs job job
+runs_none job = record { limits = refl; extends = same_history _ _ refl; each_call = λ d. refl }
 
-turn_others_left : (old new : Work) (c : ℕ) (r : Turned) → Turns old new c r → (d : ℕ) → (d == c) ≡ false → queue_at new.left d ≡ queue_at old.left d
-turn_others_left old new c turned.Idle h d other = ap (λ (j : Work). queue_at j.left d) h.2
-turn_others_left old new c turned.NoMemory h d other = ap (λ (j : Work). queue_at j.left d) h.4
-turn_others_left old new c turned.Began h d other = ap (λ (j : Work). queue_at j.left d) h.4 ∙ ap (λ o. unwrap_or o []) (get-put old.left c h.1 d ∙ ap (λ b. cond b (Some h.1) (get old.left d)) other)
-turn_others_left old new c (turned.Did (stepped.Ended reply)) h d other = ap (λ (q : Queues). queue_at q d) h.1
+pub runs_more : (a b c : Work) → Runs a b → Runs b c → Runs a c
+runs_more a b c p q = record { limits = q.limits ∙ p.limits; extends = extends-more _ _ _ p.extends q.extends; each_call = λ d. q.each_call d ∙ p.each_call d }
 
--- a turn of a caller is a run of it
-pub runs_turn : (c : ℕ) (old mid new : Work) (r : Turned) → RunsCaller c old mid → Turns mid new c r → RunsCaller c old new
-runs_turn c old mid new r run turn = record {
-  limits = turn_limits mid new c r turn ∙ run.limits;
-  extends = extends-more _ _ _ run.extends (turn_extends mid new c r turn);
-  each_call = λ d. turn_keeps_calls mid new c r turn d ∙ run.each_call d;
-  others_live = λ d other. turn_others_live mid new c r turn d other ∙ run.others_live d other;
-  others_left = λ d other. turn_others_left mid new c r turn d other ∙ run.others_left d other;
-}
+pub runs_turn : (old new : Work) (c : ℕ) (r : Turned) → Turns old new c r → Runs old new
+runs_turn old new c r turn = record { limits = turn_limits old new c r turn; extends = turn_extends old new c r turn; each_call = turn_keeps_calls old new c r turn }
 
-pub runs_none : (c : ℕ) (job : Work) → RunsCaller c job job
-runs_none c job = record { limits = refl; extends = extends-none job.kern.history; each_call = λ d. refl; others_live = λ d other. refl; others_left = λ d other. refl }
+-- ---- the work of callers
 
--- the work of a caller: two for each call left, and one for a live call
-abbrev pub caller_work : Work → ℕ → ℕ
-caller_work job c = 2 * length (queue_at job.left c) + length (option_to_list (get job.kern.pending c))
+others_began : (old new : Work) (c : ℕ) → Turns old new c turned.Began → (d : ℕ) → (d == c) ≡ false → caller_work new d ≡ caller_work old d
+others_began old new c h d other =
+    ap (λ (j : Work). caller_work j d) h.4
+    ∙ ap (λ o. 2 * length (queue_at (insert old.left c h.1) d) + length (option_to_list o)) (get-put old.kern.pending c h.0 d ∙ ap (λ b. cond b (Some h.0) (get old.kern.pending d)) other)
+    ∙ ap (λ o. 2 * length (unwrap_or o []) + length (option_to_list (get old.kern.pending d))) (get-put old.left c h.1 d ∙ ap (λ b. cond b (Some h.1) (get old.left d)) other)
+
+others_ended : (old new : Work) (c : ℕ) (r : Reply) → Turns old new c (turned.Did (stepped.Ended r)) → (d : ℕ) → (d == c) ≡ false → caller_work new d ≡ caller_work old d
+others_ended old new c r h d other =
+    ap (λ (q : Queues). 2 * length (queue_at q d) + length (option_to_list (get new.kern.pending d))) h.1
+    ∙ ap (λ o. 2 * length (queue_at old.left d) + length (option_to_list o)) (ap (λ (k : Kernel). get k.pending d) h.0.3 ∙ get-taken old.kern.pending c d ∙ ap (λ b. cond b None (get old.kern.pending d)) other)
+
+work_went : (old new : Work) (c : ℕ) → Turns old new c (turned.Did stepped.Went) → (d : ℕ) → caller_work new d ≡ caller_work old d
+work_went old new c h d =
+    ap (λ (q : Queues). 2 * length (queue_at q d) + length (option_to_list (get new.kern.pending d))) h.1
+    ∙ ap (λ (k : Kernel). 2 * length (queue_at old.left d) + length (option_to_list (get k.pending d))) h.0.1
 
 -- the work falls with a call that begins
-pub work_began : (old new : Work) (c : ℕ) → Turns old new c turned.Began → caller_work new c + 1 ≡ caller_work old c
+work_began : (old new : Work) (c : ℕ) → Turns old new c turned.Began → caller_work new c + 1 ≡ caller_work old c
 work_began old new c h =
     let here : eq_by_cmp nat_cmp c c ≡ true = ap (λ r. is_eq r) (tied_itself nat_cmp_total c) in
     let live : get new.kern.pending c ≡ Some h.0 = ap (λ (j : Work). get j.kern.pending c) h.4 ∙ get-insert nat_cmp_total old.kern.pending c h.0 c ∙ ap (λ b. cond b (Some h.0) (get old.kern.pending c)) here in
@@ -290,41 +326,94 @@ work_began old new c h =
     omega arith
 
 -- and with one that ends
-pub work_did : (old new : Work) (c : ℕ) (s : Stepped) → Turns old new c (turned.Did s) → caller_work new c + 1 ≡ caller_work old c
-work_did old new c (stepped.Ended reply) h =
+work_ended : (old new : Work) (c : ℕ) (r : Reply) → Turns old new c (turned.Did (stepped.Ended r)) → caller_work new c + 1 ≡ caller_work old c
+work_ended old new c reply h =
     let here : eq_by_cmp nat_cmp c c ≡ true = ap (λ r. is_eq r) (tied_itself nat_cmp_total c) in
-    let live : get new.kern.pending c ≡ None = ap (λ (k : Kernel). get k.pending c) h.0.2 ∙ get-remove nat_cmp_total old.kern.pending c c ∙ ap (λ b. cond b None (get old.kern.pending c)) here in
+    let live : get new.kern.pending c ≡ None = ap (λ (k : Kernel). get k.pending c) h.0.3 ∙ get-remove nat_cmp_total old.kern.pending c c ∙ ap (λ b. cond b None (get old.kern.pending c)) here in
     let now : caller_work new c ≡ 2 * length (queue_at old.left c) + 0 = ap (λ o. 2 * length (queue_at new.left c) + length (option_to_list o)) live ∙ ap (λ (q : Queues). 2 * length (queue_at q c) + 0) h.1 in
-    let before : caller_work old c ≡ 2 * length (queue_at old.left c) + 1 = ap (λ o. 2 * length (queue_at old.left c) + length (option_to_list o)) h.0.1 in
+    let before : caller_work old c ≡ 2 * length (queue_at old.left c) + 1 = ap (λ o. 2 * length (queue_at old.left c) + length (option_to_list o)) h.0.2 in
     omega arith
 
--- an idle caller is done
-pub done_idle : (old new : Work) (c : ℕ) → Turns old new c turned.Idle → IsDone new c
-done_idle old new c h = record { live = ap (λ (j : Work). get j.kern.pending c) h.2 ∙ h.0; left = ap (λ (j : Work). queue_at j.left c) h.2 ∙ h.1 }
+work_same : (old new : Work) (n : ℕ) → ((d : ℕ) → d ≤ n → caller_work new d ≡ caller_work old d) → work_to new n ≡ work_to old n
+unfolding work_to
+work_same old new zero same = refl
+work_same old new (suc n) same =
+    let rest : work_to new n ≡ work_to old n = work_same old new n (λ d low. same d (omega arith)) in
+    let here : caller_work new (suc n) ≡ caller_work old (suc n) = same (suc n) (omega arith) in
+    ap (λ x. x + caller_work new (suc n)) rest ∙ ap (λ x. work_to old n + x) here
 
--- ---- callers one after the other
+work_fell : (old new : Work) (c n : ℕ) → 1 ≤ c → c ≤ n → caller_work new c + 1 ≡ caller_work old c → ((d : ℕ) → (d == c) ≡ false → caller_work new d ≡ caller_work old d) → work_to new n + 1 ≡ work_to old n
+unfolding work_to
+work_fell old new c zero some low fell others = absurd (omega arith)
+work_fell old new c (suc n) some low fell others = elim (eqb_tells (suc n) c) [
+  | inl e ↦
+      let lower : (d : ℕ) → d ≤ n → (d == c) ≡ false = λ d less. elim (eqb_tells d c) [ inl f ↦ (let is = f.1 in let at = e.1 in absurd (omega arith)) | inr f ↦ f.0 ] in
+      let rest : work_to new n ≡ work_to old n = work_same old new n (λ d less. others d (lower d less)) in
+      let here : caller_work new (suc n) + 1 ≡ caller_work old (suc n) = subst (λ x. caller_work new x + 1 ≡ caller_work old x) (sym e.1) fell in
+      plus_one _ _ _ _ rest here
+  | inr e ↦
+      let apart : suc n ≡ c → ⊥ = λ same. let clash : true ≡ false = sym (ap (λ x. x == c) same ∙ eq-eqb c c refl) ∙ e.0 in cc in
+      let rest : work_to new n + 1 ≡ work_to old n = work_fell old new c n some (omega arith) fell others in
+      plus_low _ _ _ _ rest (others (suc n) e.0)
+]
+  where
+    plus_one : (a b x y : ℕ) → a ≡ b → x + 1 ≡ y → a + x + 1 ≡ b + y
+    plus_one a b x y e f = omega arith
 
-pub runs_to_none : (job : Work) (n : ℕ) → n ≡ 0 → RunsTo n job job
-runs_to_none job n e = record { runs = record { limits = refl; extends = extends-none job.kern.history; each_call = λ d. refl }; done = λ d some less. absurd (omega arith) }
+    plus_low : (a b x y : ℕ) → a + 1 ≡ b → x ≡ y → a + x + 1 ≡ b + y
+    plus_low a b x y e f = omega arith
 
-pub runs_to_next : (n m k : ℕ) (old mid new : Work) → RunsTo n old mid → RunsCaller k mid new → IsDone new k → k ≡ n + 1 → m ≡ n + 1 → RunsTo m old new
-runs_to_next n m k old mid new run next done is at = record {
-  runs = record {
-    limits = next.limits ∙ run.runs.limits;
-    extends = extends-more _ _ _ run.runs.extends next.extends;
-    each_call = λ d. next.each_call d ∙ run.runs.each_call d;
-  };
-  done = λ d some less. elim (eqb_tells d k) [
-    | inl e ↦ subst (λ x. IsDone new x) (sym e.1) done
-    | inr e ↦
-        let apart : d ≡ k → ⊥ = λ same. let clash : true ≡ false = sym (ap (λ x. x == k) same ∙ eq-eqb k k refl) ∙ e.0 in cc in
-        let before : IsDone mid d = run.done d some (omega arith) in
-        record { live = next.others_live d e.0 ∙ before.live; left = next.others_left d e.0 ∙ before.left }
-  ];
-}
+left_fell : (old new : Work) (c : ℕ) → IsCaller old.kern.limits c → new.kern.limits ≡ old.kern.limits → caller_work new c + 1 ≡ caller_work old c → ((d : ℕ) → (d == c) ≡ false → caller_work new d ≡ caller_work old d) → calls_left new < calls_left old
+left_fell old new c caller limits fell others =
+    less _ _ _ (ap (λ (l : Limits). work_to new l.callers) limits) (work_fell old new c old.kern.limits.callers caller.first caller.last fell others)
+  where
+    less : (a b m : ℕ) → a ≡ m → m + 1 ≡ b → a < b
+    less a b m e f = omega arith
+
+-- ---- who is ready
+
+pub ready_zero : (job : Work) → 0 ≡ ready_to job 0
+unfolding ready_to
+ready_zero job = refl
+
+ready_next : (job : Work) (n m : ℕ) → m ≡ suc n → ready_to job m ≡ ready_to job n + cond (is_ready job m) 1 0
+unfolding ready_to
+ready_next job n m e = subst (λ x. ready_to job x ≡ ready_to job n + cond (is_ready job x) 1 0) (sym e) refl
+
+-- one caller more, who is ready or isn't
+pub ready_yes : (job : Work) (n : ℕ) → is_ready job (n + 1) ≡ true → ready_to job (n + 1) ≡ ready_to job n + 1
+ready_yes job n there = ready_next job n (n + 1) (omega arith) ∙ ap (λ b. ready_to job n + cond b 1 0) there
+
+pub ready_no : (job : Work) (n : ℕ) → is_ready job (n + 1) ≡ false → ready_to job (n + 1) ≡ ready_to job n
+ready_no job n gone = ready_next job n (n + 1) (omega arith) ∙ ap (λ b. ready_to job n + cond b 1 0) gone ∙ omega arith
+
+unready : (o : Option Call) (q : List Call) → cond (is_some o) true (not (length q == 0)) ≡ false → (o ≡ None) × (q ≡ [])
+unready (Some x) q e = absurd (let clash : true ≡ false = e in cc)
+unready None [] e = (refl, refl)
+unready None (x ∷ q) e = elim (eqb_tells (length (x ∷ q)) 0) [
+  | inl f ↦ (let none : length (x ∷ q) ≡ 0 = f.1 in absurd (omega arith))
+  | inr f ↦ absurd (let clash : true ≡ false = sym (ap not f.0) ∙ e in cc)
+]
+
+none_ready : (job : Work) (n : ℕ) → ready_to job n ≡ 0 → (d : ℕ) → 1 ≤ d → d ≤ n → is_ready job d ≡ false
+unfolding ready_to
+none_ready job zero none d some low = absurd (omega arith)
+none_ready job (suc n) none d some low = elim (eqb_tells d (suc n)) [
+  | inl e ↦ ap (is_ready job) e.1 ∙ unready_one (is_ready job (suc n)) (ready_to job n) none
+  | inr e ↦
+      let apart : d ≡ suc n → ⊥ = λ same. let clash : true ≡ false = sym (ap (λ x. x == suc n) same ∙ eq-eqb (suc n) (suc n) refl) ∙ e.0 in cc in
+      none_ready job n (no_more (is_ready job (suc n)) (ready_to job n) none) d some (omega arith)
+]
+  where
+    unready_one : (b : Bool) (r : ℕ) → r + cond b 1 0 ≡ 0 → b ≡ false
+    unready_one true r e = absurd (omega arith)
+    unready_one false r e = refl
+
+    no_more : (b : Bool) (r : ℕ) → r + cond b 1 0 ≡ 0 → r ≡ 0
+    no_more b r e = omega arith
 
 -- where each caller is done, nobody has anything left
-pub all_done : (job : Work) → IsRunning job.kern job.left → ((d : ℕ) → 1 ≤ d → d ≤ job.kern.limits.callers → IsDone job d) → (c : ℕ) → IsDone job c
+all_done : (job : Work) → IsRunning job.kern job.left job.order → ((d : ℕ) → 1 ≤ d → d ≤ job.kern.limits.callers → IsDone job d) → (c : ℕ) → IsDone job c
 all_done job running done c = record {
   live = elim (get job.kern.pending c) as (λ o. get job.kern.pending c ≡ o → o ≡ None) [
     | None ↦ λ e. refl
@@ -335,3 +424,192 @@ all_done job running done c = record {
     | Some calls ↦ λ e. let caller = running.within c (ap is_some e) in sym (ap (λ o. unwrap_or o []) e) ∙ (done c caller.first caller.last).left
   ] refl;
 }
+
+-- where nobody is ready, all are done
+pub all_over : (job : Work) → IsRunning job.kern job.left job.order → ready_to job job.kern.limits.callers ≡ 0 → (c : ℕ) → IsDone job c
+all_over job running none = all_done job running (λ d some low.
+    let both = unready (get job.kern.pending d) (queue_at job.left d) (none_ready job job.kern.limits.callers none d some low) in
+    record { live = both.0; left = both.1 })
+
+-- so it is where the count of those that are ready is none
+pub over : (job inside : Work) (count n : ℕ) → inside ≡ job → IsRunning inside.kern inside.left inside.order → (count ≡ ready_to job n) × (count ≤ n) → n ≡ inside.kern.limits.callers → count ≡ 0 → (c : ℕ) → IsDone job c
+over job inside count n is running all last none =
+    subst (λ (j : Work). (c : ℕ) → IsDone j c) is (all_over inside running (ap (ready_to inside) (sym last) ∙ ap (λ (j : Work). ready_to j n) is ∙ sym all.0 ∙ none))
+
+ready_idle : (o : Option Call) (q : List Call) → cond (is_some o) true (not (length q == 0)) ≡ true → o ≡ None → q ≡ [] → ⊥
+ready_idle (Some x) q ready e f = let clash : true ≡ false = ap is_some e in cc
+ready_idle None [] ready e f = let clash : false ≡ true = ready in cc
+ready_idle None (x ∷ q) ready e f = omega (arith, ap length f)
+
+-- what a turn of a caller that is ready means for the run
+pub turn_paces : (old new : Work) (c : ℕ) (r : Turned) → IsCaller old.kern.limits c → is_ready old c ≡ true → Turns old new c r → Paces old new (pace_of r)
+turn_paces old new c turned.Idle caller ready h = absurd (ready_idle (get old.kern.pending c) (queue_at old.left c) ready h.0 h.1)
+turn_paces old new c turned.NoMemory caller ready h = tt
+turn_paces old new c turned.Began caller ready h = left_fell old new c caller (turn_limits old new c turned.Began h) (work_began old new c h) (others_began old new c h)
+turn_paces old new c (turned.Did stepped.Went) caller ready h =
+    (ap (λ (l : Limits). work_to new l.callers) (ap (λ (k : Kernel). k.limits) h.0.1) ∙ work_same old new old.kern.limits.callers (λ d low. work_went old new c h d), h.0.2)
+turn_paces old new c (turned.Did (stepped.Ended reply)) caller ready h =
+    left_fell old new c caller (turn_limits old new c (turned.Did (stepped.Ended reply)) h) (work_ended old new c reply h) (others_ended old new c reply h)
+
+-- ---- in the order of the lines
+
+lines_append : (h more : List Entry) → lines_of (h ++ more) ≡ lines_of h ++ lines_of more
+lines_append [] more = refl
+lines_append (entry.Call c call r ∷ es) more = ap (λ (t : List Line). record { caller = c; call = call } ∷ t) (lines_append es more)
+lines_append (entry.Inner c x ∷ es) more = lines_append es more
+
+dooms_no_line : (c : ℕ) (ats : List Ref) (es : List Entry) → lines_of (dooms c ats ++ es) ≡ lines_of es
+dooms_no_line c [] es = refl
+dooms_no_line c (at ∷ ats) es = dooms_no_line c ats es
+
+calls_lines : (d : ℕ) (es : List Entry) → calls_of d es ≡ calls_in d (lines_of es)
+calls_lines d [] = refl
+calls_lines d (entry.Call c call r ∷ es) = ap (λ (t : List Call). cond (d == c) (call ∷ t) t) (calls_lines d es)
+calls_lines d (entry.Inner c x ∷ es) = calls_lines d es
+
+-- it goes on
+pub goes_on : (k m n : Kernel) (c : ℕ) → GoesOn k m → Steps m n c stepped.Went → GoesOn k n
+goes_on k m n c g h = record {
+  more = g.more ++ entry.Inner c h.0 ∷ [];
+  none = lines_append g.more (entry.Inner c h.0 ∷ []) ∙ ap (λ (t : List Line). t ++ []) g.none;
+  is = h.1 ∙ ap (λ (x : Kernel). record x { history = x.history ++ entry.Inner c h.0 ∷ [] }) g.is
+      ∙ ap (λ (es : List Entry). record k { history = es }) (append_assoc k.history g.more (entry.Inner c h.0 ∷ []));
+}
+
+-- it ends
+pub ends_now : (k m n : Kernel) (c : ℕ) (r : Reply) → GoesOn k m → Steps m n c (stepped.Ended r) → Ends k n c
+ends_now k m n c r g h =
+    let own : List Entry = dooms c h.1 ++ entry.Call c h.0 r ∷ [] in
+    record {
+      call = h.0;
+      more = g.more ++ own;
+      live = sym (ap (λ (x : Kernel). get x.pending c) g.is) ∙ h.2;
+      line = lines_append g.more own ∙ ap (λ (t : List Line). t ++ lines_of own) g.none ∙ dooms_no_line c h.1 (entry.Call c h.0 r ∷ []);
+      is = h.3 ∙ ap (λ (x : Kernel). record x { history = x.history ++ own; pending = remove x.pending c }) g.is
+          ∙ ap (λ (es : List Entry). record k { history = es; pending = remove k.pending c }) (append_assoc k.history g.more own);
+    }
+
+pub ends_runs : (k n : Kernel) (q : Queues) (o : List ℕ) (c : ℕ) → Ends k n c → Runs (record { kern = k; left = q; order = o }) (record { kern = n; left = q; order = o })
+ends_runs k n q o c e = record {
+  limits = ap (λ (x : Kernel). x.limits) e.is;
+  extends = record { more = e.more; is = ap (λ (x : Kernel). x.history) e.is };
+  each_call = λ d. ap (λ (x : Kernel). calls_of d x.history ++ (option_to_list (get x.pending d) ++ queue_at q d)) e.is
+      ∙ ended_keeps k.history e.more k.pending q c d e.call e.live (calls_lines d e.more ∙ ap (calls_in d) e.line);
+}
+
+pub running-ends : (k n : Kernel) (q : Queues) (o : List ℕ) (c : ℕ) → IsRunning k q o → Ends k n c → IsLegal n.pending (start_world n.limits) n.history → IsRunning n q o
+running-ends k n q o c running e legal = running-ended k n q o c running (ap (λ (x : Kernel). x.limits) e.is) (ap (λ (x : Kernel). x.pending) e.is) legal
+
+-- a caller whose call is live, or that has none left, is no caller of a line that is next
+pub live_line : (old new : Work) (c : ℕ) → IsSome (get old.kern.pending c) → RunsLine c old new
+live_line old new c live call rest idle next = absurd (let clash : false ≡ true = sym (ap is_some (ap (λ m. get m c) idle ∙ get-empty nat_cmp c)) ∙ live in cc)
+
+-- a line that was begun and has ended
+pub begun_line : (old mid : Work) (n : Kernel) (c : ℕ) → Begins old mid c begun.Began → Ends mid.kern n c → RunsLine c old (record { kern = n; left = mid.left; order = mid.order })
+begun_line old mid n c h e call rest idle next =
+    let both : h.0 ∷ h.1 ≡ call ∷ rest = sym h.3 ∙ next in
+    let first : h.0 ≡ call = ap (λ (t : List Call). get_or t 0 call) both in
+    let others : h.1 ≡ rest = ap (λ (t : List Call). drop 1 t) both in
+    let live : get mid.kern.pending c ≡ Some h.0 = ap (λ (j : Work). get j.kern.pending c) h.4 ∙ get_at-insert nat_cmp_total old.kern.pending c h.0 in
+    let its : e.call ≡ call = same_Some _ _ (sym e.live ∙ live) ∙ first in (
+      ap (λ (x : Kernel). x.pending) e.is ∙ ap (λ (j : Work). remove j.kern.pending c) h.4 ∙ remove-insert nat_cmp_total exact_unsigned old.kern.pending c h.0 h.2 ∙ idle,
+      ap (λ (j : Work). j.left) h.4 ∙ ap (insert old.left c) others,
+      ap (λ (x : Kernel). lines_of x.history) e.is ∙ ap (λ (j : Work). lines_of (j.kern.history ++ e.more)) h.4 ∙ lines_append old.kern.history e.more
+          ∙ ap (λ (t : List Line). lines_of old.kern.history ++ t) (e.line ∙ ap (λ k. record { caller = c; call = k } ∷ []) its),
+    )
+
+-- a line starts
+pub starts_begun : (c : ℕ) (old mid new : Work) (b : Begun) → Begins old mid c b → b ≡ begun.Began → new ≡ mid → StartsLine c old new
+starts_begun c old mid new b h is same = inl (subst (λ (j : Work). Begins old j c begun.Began) (sym same) (subst (λ x. Begins old mid c x) is h))
+
+pub starts_here : (c : ℕ) (old inside new : Work) (b : Bool) → inside ≡ old → b ≡ is_some (get inside.kern.pending c) → b ≡ true → new ≡ old → StartsLine c old new
+starts_here c old inside new b was live there same = inr (same, subst (λ (j : Work). IsSome (get j.kern.pending c)) was (sym live ∙ there))
+
+-- its call is live
+pub starts_live : (c : ℕ) (old mid : Work) → StartsLine c old mid → IsSome (get mid.kern.pending c)
+starts_live c old mid (inl h) = ap is_some (ap (λ (j : Work). get j.kern.pending c) h.4 ∙ get_at-insert nat_cmp_total old.kern.pending c h.0)
+starts_live c old mid (inr h) = subst (λ (j : Work). IsSome (get j.kern.pending c)) (sym h.0) h.1
+
+-- and where it ends, turns were made
+pub starts_runs : (c : ℕ) (old mid : Work) (n : Kernel) → StartsLine c old mid → Ends mid.kern n c → Runs old (record { kern = n; left = mid.left; order = mid.order })
+starts_runs c old mid n (inl h) e = runs_more old mid _ (runs_turn old mid c turned.Began h) (ends_runs mid.kern n mid.left mid.order c e)
+starts_runs c old mid n (inr h) e = runs_more old mid _ (subst (λ (j : Work). Runs old j) (sym h.0) (runs_none old)) (ends_runs mid.kern n mid.left mid.order c e)
+
+-- and the line was run
+pub starts_line : (c : ℕ) (old mid : Work) (n : Kernel) → StartsLine c old mid → Ends mid.kern n c → RunsLine c old (record { kern = n; left = mid.left; order = mid.order })
+starts_line c old mid n (inl h) e = begun_line old mid n c h e
+starts_line c old mid n (inr h) e = live_line old (record { kern = n; left = mid.left; order = mid.order }) c h.1
+
+line_at : (n c : ℕ) (xs : List Line) → n < length (map (λ (l : Line). l.caller) xs) → get_or (map (λ (l : Line). l.caller) xs) n c ≡ c
+    → (call : Call) × (drop n xs ≡ record { caller = c; call = call } ∷ drop (suc n) xs) × (take (suc n) xs ≡ take n xs ++ record { caller = c; call = call } ∷ [])
+line_at n c [] low e = absurd (omega arith)
+line_at zero c (x ∷ xs) low e = (x.call, ap (λ k. record { caller = k; call = x.call } ∷ xs) e, ap (λ k. record { caller = k; call = x.call } ∷ []) e)
+line_at (suc n) c (x ∷ xs) low e = let r = line_at n c xs (omega arith) e in (r.0, r.1, ap (λ (t : List Line). x ∷ t) r.2)
+
+-- one line more has been run
+pub lines_next : (n m c : ℕ) (old mid new : Work) → RunsLines n old mid → Runs mid new → new.order ≡ mid.order → RunsLine c mid new → n < length mid.order → get_or mid.order n c ≡ c → m ≡ suc n → RunsLines m old new
+lines_next n m c old mid new run more same one low at next = subst (λ x. RunsLines x old new) (sym next) (record {
+  runs = runs_more old mid new run.runs more;
+  order = same ∙ run.order;
+  ordered = λ lines h.
+      let was = run.ordered lines h in
+      let callers : mid.order ≡ map (λ (l : Line). l.caller) lines = run.order ∙ h.order in
+      let its = line_at n c lines (subst (λ (x : List ℕ). n < length x) callers low) (ap (λ (x : List ℕ). get_or x n c) (sym callers) ∙ at) in
+      let rest : List Line = drop (suc n) lines in
+      let here : queue_at mid.left c ≡ its.0 ∷ calls_in c rest = was.left c ∙ ap (calls_in c) its.1 ∙ ap (λ b. cond b (its.0 ∷ calls_in c rest) (calls_in c rest)) (eq-eqb c c refl) in
+      let did = one its.0 (calls_in c rest) was.idle here in
+      record {
+        idle = did.0;
+        left = λ d.
+            let goal : Bool → Type 0 = λ b. queue_at mid.left d ≡ cond b (its.0 ∷ calls_in d rest) (calls_in d rest) → unwrap_or (cond b (Some (calls_in c rest)) (get mid.left d)) [] ≡ calls_in d rest in
+            let put : queue_at (insert mid.left c (calls_in c rest)) d ≡ calls_in d rest = ap (λ o. unwrap_or o []) (get-put mid.left c (calls_in c rest) d) ∙ by_caller c d goal (λ e _. ap (λ x. calls_in x rest) (sym e)) (λ e. e) (was.left d ∙ ap (calls_in d) its.1) in
+            ap (λ (q : Queues). queue_at q d) did.1 ∙ put;
+        run = did.2 ∙ ap (λ (t : List Line). t ++ record { caller = c; call = its.0 } ∷ []) was.run
+            ∙ append_assoc (lines_of old.kern.history) (take n lines) (record { caller = c; call = its.0 } ∷ [])
+            ∙ ap (λ (t : List Line). lines_of old.kern.history ++ t) (sym its.2);
+      };
+})
+
+all_lines : (n : ℕ) (xs : List Line) → n ≡ length (map (λ (l : Line). l.caller) xs) → (drop n xs ≡ []) × (take n xs ≡ xs)
+all_lines zero [] e = (refl, refl)
+all_lines zero (x ∷ xs) e = absurd (omega arith)
+all_lines (suc n) [] e = absurd (omega arith)
+all_lines (suc n) (x ∷ xs) e = let r = all_lines n xs (omega arith) in (r.0, ap (λ (t : List Line). x ∷ t) r.1)
+
+no_calls : (es : List Entry) → ((d : ℕ) → calls_of d es ≡ []) → lines_of es ≡ []
+no_calls [] none = refl
+no_calls (entry.Call c call r ∷ es) none =
+    let here : call ∷ calls_of c es ≡ [] = sym (ap (λ b. cond b (call ∷ calls_of c es) (calls_of c es)) (eq-eqb c c refl)) ∙ none c in
+    absurd (let some : suc (length (calls_of c es)) ≡ 0 = ap length here in omega arith)
+no_calls (entry.Inner c x ∷ es) none = no_calls es none
+
+no_more_calls : (a b x : List Call) → (a ++ b) ++ x ≡ a ++ [] → b ≡ []
+no_more_calls a b x e =
+    let long : length (a ++ b) + length x ≡ length a + 0 = sym (length-append (a ++ b) x) ∙ ap length e ∙ length-append a [] in
+    let both : length (a ++ b) ≡ length a + length b = length-append a b in
+    no_items b (omega arith)
+
+-- all lines have been run, and nobody has anything left that a further run might run
+pub lines_end : (n : ℕ) (old mid new : Work) → RunsLines n old mid → n ≡ length mid.order → Runs mid new → (lines : List Line) → HasLeft lines old → lines_of new.kern.history ≡ lines_of old.kern.history ++ lines
+lines_end n old mid new run all more lines h =
+    let was = run.ordered lines h in
+    let whole = all_lines n lines (all ∙ ap length (run.order ∙ h.order)) in
+    let idle : (d : ℕ) → option_to_list (get mid.kern.pending d) ++ queue_at mid.left d ≡ [] = λ d.
+    ap (λ o. option_to_list o ++ queue_at mid.left d) (ap (λ m. get m d) was.idle ∙ get-empty nat_cmp d) ∙ was.left d ∙ ap (calls_in d) whole.0
+    in
+    let none : (d : ℕ) → calls_of d more.extends.more ≡ [] = λ d.
+    no_more_calls (calls_of d mid.kern.history) (calls_of d more.extends.more) (option_to_list (get new.kern.pending d) ++ queue_at new.left d)
+    (ap (λ (t : List Call). t ++ (option_to_list (get new.kern.pending d) ++ queue_at new.left d)) (sym (ap (calls_of d) more.extends.is ∙ calls_append d mid.kern.history more.extends.more))
+    ∙ more.each_call d ∙ ap (λ (t : List Call). calls_of d mid.kern.history ++ t) (idle d))
+    in
+    ap lines_of more.extends.is ∙ lines_append mid.kern.history more.extends.more
+    ∙ ap (λ (t : List Line). lines_of mid.kern.history ++ t) (no_calls more.extends.more none) ∙ append-nil (lines_of mid.kern.history)
+    ∙ was.run ∙ ap (λ (t : List Line). lines_of old.kern.history ++ t) whole.1
+
+pub on_ok : {A E : Type 0} (r : Result A E) (P : Type 0) → P → OnOk r P
+on_ok (Ok x) P h = h
+on_ok (Err e) P h = tt
+
+-- the lines in the order that stands, as many as in that at first
+pub whole_order : (inside old new : Work) {n : ℕ} → inside ≡ old → new.order ≡ old.order → n ≡ length inside.order → n ≡ length new.order
+whole_order inside old new is same long = long ∙ ap (λ (j : Work). length j.order) is ∙ ap length (sym same)

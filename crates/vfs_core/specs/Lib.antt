@@ -1,5 +1,6 @@
 pub mod Kernel
 pub mod Stepping
+pub mod Coming
 pub mod Queues
 pub mod Work
 pub mod Turning

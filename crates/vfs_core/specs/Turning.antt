@@ -1,23 +1,29 @@
 -- What turns do.
-use Rattle.std.specs.Prelude.{ℕ, ◌≡◌, ◌≤◌, Bool, true, false, ◌==◌, List, [], ◌∷◌, ◌++◌, Option, Some, None}
+use Rattle.std.specs.Prelude.{ℕ, zero, suc, ◌+◌, ◌*◌, ◌≡◌, ◌<◌, Bool, true, not, ◌==◌, if◌then◌else◌, List, [], ◌∷◌, ◌++◌, map, length, take, drop, Some, None, IsSome, is_some, ◌⊎◌}
 use Rattle.std.specs.Option.{option_to_list}
-use Rattle.std.specs.FinMap.{get, insert}
+use Rattle.std.specs.FinMap.{get, insert, remove, empty}
 use Rattle.vfs_tree.specs.Limits.{IsCaller}
 use Rattle.vfs_tree.specs.declared.limits.Limits.{Limits}
-use Rattle.call_model.specs.Apply.{is_served}
-use Rattle.call_model.specs.Legal.{Extends, calls_of}
+use Rattle.call_model.specs.Legal.{Extends, calls_of, calls_in}
 use Rattle.call_model.specs.declared.call.Call.{Call}
 use Rattle.call_model.specs.declared.call.Line.{Line}
+use Rattle.call_model.specs.declared.entry.Entry.{Entry}
+use Rattle.call_model.specs.declared.entry.Entry.TheVariants as entry
+use Rattle.vfs_core.specs.Kernel.{Kernel, work}
 use Rattle.vfs_core.specs.Queues.{queue_at}
 use Rattle.vfs_core.specs.Stepping.{Steps}
 use Rattle.vfs_core.specs.Work.{Work}
+use Rattle.vfs_core.specs.declared.job.Pace.{Pace}
+use Rattle.vfs_core.specs.declared.job.Pace.TheVariants as pace
+use Rattle.vfs_core.specs.declared.kern.Stepped.TheVariants as stepped
+use Rattle.vfs_core.specs.declared.queue.Begun.{Begun}
+use Rattle.vfs_core.specs.declared.queue.Begun.TheVariants as begun
 use Rattle.vfs_core.specs.declared.job.Turned.{Turned}
 use Rattle.vfs_core.specs.declared.job.Turned.TheVariants as turned
 
--- a line of a caller, with a call that is served
-pub record FitsJob (limits : Limits) (line : Line) : Type 0 where
-  pub caller : IsCaller limits line.caller
-  pub served : is_served line.call ≡ true
+-- a line of a caller
+abbrev pub FitsJob : Limits → Line → Type 0
+FitsJob limits line = IsCaller limits line.caller
 
 -- a caller's calls in the history, then its live call, then its calls left
 abbrev pub calls_with : Work → ℕ → List Call
@@ -29,21 +35,19 @@ Turns old new c turned.Idle = (get old.kern.pending c ≡ None) × (queue_at old
 Turns old new c turned.NoMemory = (call : Call) × (rest : List Call) × (get old.kern.pending c ≡ None) × (queue_at old.left c ≡ call ∷ rest) × (new ≡ old)
 Turns old new c turned.Began =
     (call : Call) × (rest : List Call) × (get old.kern.pending c ≡ None) × (queue_at old.left c ≡ call ∷ rest)
-    × (new ≡ record { kern = record old.kern { pending = insert old.kern.pending c call }; left = insert old.left c rest })
-Turns old new c (turned.Did stepped) = Steps old.kern new.kern c stepped × (new.left ≡ old.left)
+    × (new ≡ record { kern = record old.kern { pending = insert old.kern.pending c call }; left = insert old.left c rest; order = old.order })
+Turns old new c (turned.Did stepped) = Steps old.kern new.kern c stepped × (new.left ≡ old.left) × (new.order ≡ old.order)
+
+-- a caller without a live call begins its next one, unless it has none or memory is wanting
+abbrev pub Begins : Work → Work → ℕ → Begun → Type 0
+Begins old new c begun.Idle = Turns old new c turned.Idle
+Begins old new c begun.NoMemory = Turns old new c turned.NoMemory
+Begins old new c begun.Began = Turns old new c turned.Began
 
 -- a caller has no live call, and none left
 pub record IsDone (job : Work) (c : ℕ) : Type 0 where
   pub live : get job.kern.pending c ≡ None
   pub left : queue_at job.left c ≡ []
-
--- a caller has had turns, and nobody else
-pub record RunsCaller (c : ℕ) (old new : Work) : Type 0 where
-  pub limits : new.kern.limits ≡ old.kern.limits
-  pub extends : Extends old.kern.history new.kern.history
-  pub each_call : (d : ℕ) → calls_with new d ≡ calls_with old d
-  pub others_live : (d : ℕ) → (d == c) ≡ false → get new.kern.pending d ≡ get old.kern.pending d
-  pub others_left : (d : ℕ) → (d == c) ≡ false → queue_at new.left d ≡ queue_at old.left d
 
 -- callers have had turns
 pub record Runs (old new : Work) : Type 0 where
@@ -51,7 +55,97 @@ pub record Runs (old new : Work) : Type 0 where
   pub extends : Extends old.kern.history new.kern.history
   pub each_call : (d : ℕ) → calls_with new d ≡ calls_with old d
 
--- callers from 1 to n have had turns until they were done
-pub record RunsTo (n : ℕ) (old new : Work) : Type 0 where
+-- ---- in the order of a seed
+
+-- whether a caller has a call live or left
+abbrev pub is_ready : Work → ℕ → Bool
+is_ready job c = if is_some (get job.kern.pending c) then true else not (length (queue_at job.left c) == 0)
+
+-- how many of the callers up to n have a call live or left
+unfoldable pub ready_to : Work → ℕ → ℕ
+ready_to job zero = 0
+ready_to job (suc n) = ready_to job n + (if is_ready job (suc n) then 1 else 0)
+
+-- how many callers have a call live or left
+abbrev pub ready : Work → ℕ
+ready job = ready_to job job.kern.limits.callers
+
+-- the work of a caller: two for each call left, and one for a live call
+abbrev pub caller_work : Work → ℕ → ℕ
+caller_work job c = 2 * length (queue_at job.left c) + length (option_to_list (get job.kern.pending c))
+
+-- the work of the callers up to n
+unfoldable pub work_to : Work → ℕ → ℕ
+work_to job zero = 0
+work_to job (suc n) = work_to job n + caller_work job (suc n)
+
+-- the work of all callers
+abbrev pub calls_left : Work → ℕ
+calls_left job = work_to job job.kern.limits.callers
+
+-- what a turn means for a run of all calls
+abbrev pub pace_of : Turned → Pace
+pace_of turned.Idle = pace.Over
+pace_of turned.NoMemory = pace.Stuck
+pace_of turned.Began = pace.Moved
+pace_of (turned.Did stepped.Went) = pace.Went
+pace_of (turned.Did (stepped.Ended reply)) = pace.Moved
+
+-- A turn of the caller on whom it falls: nobody has anything left, or a call was begun or ended, or one went on. Each but
+-- the first brings the end nearer, unless memory is wanting.
+abbrev pub Paces : Work → Work → Pace → Type 0
+Paces old new pace.Over = (c : ℕ) → IsDone new c
+Paces old new pace.Stuck = Unit {0}
+Paces old new pace.Moved = calls_left new < calls_left old
+Paces old new pace.Went = (calls_left new ≡ calls_left old) × (work new.kern < work old.kern)
+
+-- ---- in the order of the lines
+
+-- the calls in the call entries, each with its caller, in their order
+abbrev pub lines_of : List Entry → List Line
+lines_of [] = []
+lines_of (entry.Call c call r ∷ es) = record { caller = c; call = call } ∷ lines_of es
+lines_of (entry.Inner c x ∷ es) = lines_of es
+
+-- no call is live, and these lines are left, in this order
+pub record HasLeft (lines : List Line) (job : Work) : Type 0 where
+  pub idle : job.kern.pending ≡ empty
+  pub order : job.order ≡ map (λ (l : Line). l.caller) lines
+  pub left : (c : ℕ) → queue_at job.left c ≡ calls_in c lines
+
+-- a live call of a caller ended: its entry is the one call entry that is new
+pub record Ends (old new : Kernel) (c : ℕ) : Type 0 where
+  pub call : Call
+  pub more : List Entry
+  pub live : get old.pending c ≡ Some call
+  pub line : lines_of more ≡ record { caller = c; call = call } ∷ []
+  pub is : new ≡ record old { history = old.history ++ more; pending = remove old.pending c }
+
+-- a live call of a caller went on: no call entry is new
+pub record GoesOn (old new : Kernel) : Type 0 where
+  pub more : List Entry
+  pub none : lines_of more ≡ []
+  pub is : new ≡ record old { history = old.history ++ more }
+
+-- where no call was live, the first n lines have been run, and the others are left
+pub record HasRun (n : ℕ) (lines : List Line) (old new : Work) : Type 0 where
+  pub idle : new.kern.pending ≡ empty
+  pub left : (c : ℕ) → queue_at new.left c ≡ calls_in c (drop n lines)
+  pub run : lines_of new.kern.history ≡ lines_of old.kern.history ++ take n lines
+
+-- where no call was live, the next call of a caller has been run
+abbrev pub RunsLine : ℕ → Work → Work → Type 0
+RunsLine c old new =
+    (call : Call) (rest : List Call) → old.kern.pending ≡ empty → queue_at old.left c ≡ call ∷ rest
+    → (new.kern.pending ≡ empty) × (new.left ≡ insert old.left c rest)
+    × (lines_of new.kern.history ≡ lines_of old.kern.history ++ record { caller = c; call = call } ∷ [])
+
+-- a caller's next call was begun, or one was live
+abbrev pub StartsLine : ℕ → Work → Work → Type 0
+StartsLine c old new = Begins old new c begun.Began ⊎ ((new ≡ old) × IsSome (get old.kern.pending c))
+
+-- the lines up to n have been run
+pub record RunsLines (n : ℕ) (old new : Work) : Type 0 where
   pub runs : Runs old new
-  pub done : (d : ℕ) → 1 ≤ d → d ≤ n → IsDone new d
+  pub order : new.order ≡ old.order
+  pub ordered : (lines : List Line) → HasLeft lines old → HasRun n lines old new

@@ -1,41 +1,56 @@
-// The answer of a call, or want of memory.
-ghost use Rattle.std.specs.Prelude.{◌≡◌, true, []};
-ghost use Rattle.std.specs.FinMap as map;
+// What a call comes to: its answer, which is ENOMEM where memory is wanting, or the inner entry that it needs.
+ghost use Rattle.std.specs.Prelude.{◌≡◌, Some};
 ghost use Rattle.vfs_tree.specs.Nodes.{IsNumbered};
-ghost use Rattle.call_model.specs.Apply.{is_served};
-ghost use Rattle.call_model.specs.Legal.{MayAnswer, is_no_memory};
-ghost use Rattle.plain_calls.specs.Kept.{Keeps};
+ghost use Rattle.call_laws.specs.Leaving.{IsLeaving};
+ghost use Rattle.vfs_core.specs.Coming.{ComesTo};
 
-use call_model::{Call, Reply};
-use plain_calls::{Answer, answer_call};
+use call_model::{Call, Inner, Reply};
+use plain_calls::answer_call;
+use plain_checks::{Answer, Stop};
 use std::alloc::Global;
 use vfs_tree::{Errno, World};
 
-/// The answer of a call that found no memory.
-fn lack() -> Answer
-    ensures { is_no_memory result.reply ≡ true }
+/// What a call comes to in a world.
+#[derive(Debug, Drop)]
+pub enum Came {
+    /// It is answered.
+    Answered {
+        /// Its answer.
+        answer: Answer,
+    },
+    /// It needs an inner entry first.
+    Needs {
+        /// That entry.
+        what: Inner,
+    },
+}
+
+/// The answer of a call that fails.
+pub fn failed(errno: Errno) -> Answer
+    ensures { result.reply ≡ Reply.Fail errno }
 {
     Answer {
-        reply: Reply::Fail {
-            errno: Errno::ENOMEM,
-        },
-        entered: Reply::Fail {
-            errno: Errno::ENOMEM,
-        },
+        reply: Reply::Fail { errno },
+        entered: Reply::Fail { errno },
     }
 }
 
-/// Answers a call in the world, by ENOMEM where no memory was found; then the world stays.
-pub fn answer_or_lack(alloc: Global, world: &mut World, caller: u32, call: &Call) -> Answer
-    requires served { is_served call.now ≡ true }
+/// Answers a call in the world, by ENOMEM where memory is wanting, or tells what it needs first. Where it isn't answered
+/// the world stays.
+pub fn answer_or_need(alloc: Global, world: &mut World, caller: u32, call: &Call) -> Came
     requires numbered { IsNumbered world.old }
-    requires stays { world.old.leaving ≡ map.empty }
-    ensures right { MayAnswer world.old [] caller call.now result.reply world.new }
-    ensures kept { Keeps world.old world.new }
+    requires leaving { IsLeaving world.old caller (Some call.now) }
+    ensures came { ComesTo world.old world.new caller call.now result }
+    ensures kept { IsNumbered world.new }
 {
     match answer_call(alloc, world, caller, call) {
-        Ok(answer) => return answer,
-        Err(_) => {}
+        Ok(answer) => Came::Answered { answer },
+        Err(Stop::Refused { errno }) => Came::Answered {
+            answer: failed(errno),
+        },
+        Err(Stop::Needs { what }) => Came::Needs { what },
+        Err(Stop::NoMemory) => Came::Answered {
+            answer: failed(Errno::ENOMEM),
+        },
     }
-    lack()
 }

@@ -2,12 +2,13 @@ ghost use Rattle.std.specs.Prelude.{◌≡◌, ◌∷◌, ◌++◌, [], true, Is
 ghost use Rattle.std.specs.FinMap as map;
 ghost use Rattle.vfs_tree.specs.Limits.{IsLawful, IsCaller};
 ghost use Rattle.vfs_tree.specs.Start.{start_world};
-ghost use Rattle.call_model.specs.Apply.{is_served};
 ghost use Rattle.call_model.specs.Legal.{IsLegal, replay};
 ghost use Rattle.vfs_core.specs.Stepping.{Steps};
 
-use crate::answering::answer_or_lack;
-use call_model::{Call, Entry, History, Reply};
+use crate::advancing::{Advanced, advance};
+use crate::ending::end;
+use crate::ledger::Ledger;
+use call_model::{Call, History, Reply};
 use finite_maps::{Duplicate, NumberMap};
 use std::alloc::{AllocError, Global};
 use std::marker::Model;
@@ -16,6 +17,8 @@ use vfs_tree::{Limits, World};
 /// What a step of a call did.
 #[derive(Debug, Drop)]
 pub enum Stepped {
+    /// The call went on: an inner entry that it needs was appended, and it is live still.
+    Went,
     /// The call was answered: its entry stands in the history, and it is live no more.
     Ended {
         /// The answer.
@@ -31,7 +34,7 @@ pub enum Stepped {
 pub struct Kern {
     limits: Limits,
     world: World,
-    history: History,
+    history: Ledger,
     pending: NumberMap<Call>,
 }
 
@@ -58,10 +61,12 @@ impl Kern {
         requires { IsLawful limits }
         ensures { IfOk result (λ kern. kern ≡ record { limits = limits; history = []; pending = map.empty }) }
     {
+        let world = World::start(alloc, limits)?;
+        let history = Ledger::with_room(alloc, limits.callers as usize)?;
         Ok(Kern {
             limits,
-            world: World::start(alloc, limits)?,
-            history: History::new(alloc),
+            world,
+            history,
             pending: NumberMap::new(alloc),
         })
     }
@@ -70,13 +75,12 @@ impl Kern {
     pub fn begin(&mut self, caller: u32, call: Call) -> Result<(), Call>
         requires caller { IsCaller self.old.limits caller }
         requires idle { map.get self.old.pending caller ≡ None }
-        requires served { is_served call ≡ true }
         ensures begun { OnOk result (self.new ≡ record self.old { pending = map.insert self.old.pending caller call }) }
         ensures back { IfErr result (λ back. back ≡ call) }
         ensures err { OnErr result (self.new ≡ self.old) }
         ensures legal { IsLegal self.new.pending (start_world self.new.limits) self.new.history }
     {
-        match self.history.reserve(self.pending.len() + 1) {
+        match self.history.widen(2) {
             Ok(()) => {}
             Err(_) => return Err(call),
         }
@@ -86,24 +90,22 @@ impl Kern {
         }
     }
 
-    /// Takes the live call of a caller one step further: as yet, to its end. For want of memory the answer is ENOMEM,
-    /// and the world stays.
+    /// Takes the live call of a caller one step further: to the inner entry that it needs, or to its end. A forced unmount
+    /// takes a step for each of its entries; a revoke makes its dooms and ends in one step. Where memory is wanting the
+    /// answer is ENOMEM and the world stays; a caller that has detached a mount, or doomed a reference, never meets that.
     pub fn step(&mut self, alloc: Global, caller: u32) -> Stepped
         requires { IsSome (map.get self.old.pending caller) }
         ensures stepped { Steps self.old self.new caller result }
         ensures legal { IsLegal self.new.pending (start_world self.new.limits) self.new.history }
     {
-        let Some(call) = self.pending.remove(caller) else {
+        let Some(call) = self.pending.get(caller) else {
             unreachable!()
         };
-        let answer = answer_or_lack(alloc, &mut self.world, caller, &call);
-        self.history.push(Entry::Call {
-            caller,
-            call,
-            reply: answer.entered,
-        });
-        Stepped::Ended {
-            reply: answer.reply,
+        match advance(alloc, &mut self.world, &mut self.history, caller, call) {
+            Advanced::Went => Stepped::Went,
+            Advanced::Ended { answer } => Stepped::Ended {
+                reply: end(&mut self.pending, &mut self.history, caller, answer),
+            },
         }
     }
 
@@ -112,7 +114,7 @@ impl Kern {
         ensures history { result.now.entries ≡ self.now.history }
         ensures legal { IsLegal self.now.pending (start_world self.now.limits) self.now.history }
     {
-        &self.history
+        self.history.history()
     }
 
     /// Whether a call of the caller is live.

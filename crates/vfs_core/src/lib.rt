@@ -1,14 +1,18 @@
 //! The core: calls are begun and stepped, and each has its entry in one history.
 //!
-//! A `Kern` holds a world and the history that leads to it. `begin` makes a call live, and `step` takes it further; as
-//! yet each call takes one step, which answers it. A `Job` runs the calls of many callers, each in its caller's order;
-//! which caller has the next turn is free.
+//! A `Kern` holds a world and the history that leads to it. `begin` makes a call live, and `step` takes it to the next inner
+//! entry that it needs (a shadow directory, a copy to an upper layer, the detaching of a mount, a doom) or to its end. A
+//! `Job` runs the calls of many callers, each in its caller's order; which caller has the next turn is free.
 #![tactic(auto)]
 
+mod advancing;
 mod answering;
+mod ending;
 mod job;
 mod kern;
+mod ledger;
 mod queue;
+mod revoking;
 #[cfg(test)]
 mod tests;
 

@@ -1,18 +1,26 @@
 // The calls that callers have yet to make.
-ghost use Rattle.std.specs.Prelude.{◌≡◌, ◌∷◌, ◌++◌, [], true, None, OnOk, OnErr};
-ghost use Rattle.std.specs.List.{AllByRecursion};
+ghost use Rattle.std.specs.Prelude.{◌≡◌, ◌==◌, ◌∷◌, ◌++◌, [], None, OnOk, OnErr, length};
 ghost use Rattle.std.specs.FinMap as map;
 ghost use Rattle.vfs_tree.specs.Limits.{IsCaller};
-ghost use Rattle.call_model.specs.Apply.{is_served};
 ghost use Rattle.vfs_core.specs.Queues.{queue_at, BeginsNext};
 
-use crate::job::Turned;
 use crate::kern::Kern;
 use call_model::Call;
 use finite_maps::NumberMap;
 use std::alloc::{AllocError, Global};
 use std::collections::VecDeque;
 use std::marker::Model;
+
+/// What became of a caller's next call.
+#[derive(Clone, Copy)]
+pub enum Begun {
+    /// It was begun.
+    Began,
+    /// There is none.
+    Idle,
+    /// For want of memory it wasn't begun.
+    NoMemory,
+}
 
 /// The calls that a caller has yet to make, the next one first.
 #[derive(Drop)]
@@ -50,22 +58,28 @@ impl CallQueue {
         }
     }
 
+    /// Whether there is no call.
+    pub fn is_empty(&self) -> bool
+        ensures { result ≡ (length self.now == 0) }
+    {
+        self.calls.is_empty()
+    }
+
     /// Begins the next call of a caller that has none live. For want of memory the call stays the next one.
-    pub fn begin_next(&mut self, kern: &mut Kern, caller: u32) -> Turned
+    pub fn begin_next(&mut self, kern: &mut Kern, caller: u32) -> Begun
         requires caller { IsCaller kern.old.limits caller }
         requires idle { map.get kern.old.pending caller ≡ None }
-        requires served { AllByRecursion (λ call. is_served call ≡ true) self.old }
         ensures { BeginsNext self.old self.new kern.old kern.new caller result }
     {
         let call = match self.calls.pop_front() {
             Some(call) => call,
-            None => return Turned::Idle,
+            None => return Begun::Idle,
         };
         match kern.begin(caller, call) {
-            Ok(()) => Turned::Began,
+            Ok(()) => Begun::Began,
             Err(call) => {
                 self.calls.push_front_reserved(call);
-                Turned::NoMemory
+                Begun::NoMemory
             }
         }
     }

@@ -1,7 +1,5 @@
-ghost use Rattle.std.specs.Prelude.{◌≡◌, true, IfOk};
+ghost use Rattle.std.specs.Prelude.{IfOk};
 ghost use Rattle.std.specs.List.{AllByRecursion};
-ghost use Rattle.vfs_tree.specs.Path.{is_name_path};
-ghost use Rattle.call_model.specs.Apply.{is_served};
 ghost use Rattle.vfs_core.specs.Turning.{FitsJob};
 
 use crate::{Job, Kern, Stepped, Turned};
@@ -23,6 +21,7 @@ enum Seen {
     Began,
     Idle,
     NoMemory,
+    Went,
     Done,
     Dir,
     Refused(Errno),
@@ -47,24 +46,21 @@ fn as_seen(turned: &Turned) -> Seen {
         Turned::Idle => Seen::Idle,
         Turned::NoMemory => Seen::NoMemory,
         Turned::Did {
+            stepped: Stepped::Went,
+        } => Seen::Went,
+        Turned::Did {
             stepped: Stepped::Ended { reply },
         } => reply_as(reply),
     }
 }
 
-fn mkdir(alloc: Global, path: &[u8]) -> Result<Call, AllocError>
-    requires { is_name_path path.now ≡ true }
-    ensures { IfOk result (λ call. is_served call ≡ true) }
-{
+fn mkdir(alloc: Global, path: &[u8]) -> Result<Call, AllocError> {
     Ok(Call::Mkdir {
         p: Bytes::copy_of(alloc, path)?,
     })
 }
 
-fn stat(alloc: Global, path: &[u8]) -> Result<Call, AllocError>
-    requires { is_name_path path.now ≡ true }
-    ensures { IfOk result (λ call. is_served call ≡ true) }
-{
+fn stat(alloc: Global, path: &[u8]) -> Result<Call, AllocError> {
     Ok(Call::Stat {
         p: Bytes::copy_of(alloc, path)?,
     })
@@ -103,6 +99,22 @@ fn lines(alloc: Global) -> Result<Vec<Line>, AllocError>
     Ok(lines)
 }
 
+// Whether the history has calls of these callers, in this order.
+fn has_order(kern: &Kern, wanted: &[u32]) -> bool {
+    let history = kern.history();
+    for (at, wanted) in wanted.iter().enumerate() {
+        match history.get(at) {
+            Some(Entry::Call { caller, .. }) => {
+                if caller != wanted {
+                    return false;
+                }
+            }
+            _ => return false,
+        }
+    }
+    history.len() == wanted.len()
+}
+
 #[test]
 fn callers_take_turns(rt: HostRuntime) -> Result<(), Fail> {
     let alloc = rt.alloc();
@@ -131,13 +143,31 @@ fn callers_take_turns(rt: HostRuntime) -> Result<(), Fail> {
             "a turn of {caller}"
         );
     }
-    let kern = job.into_kern();
-    for (at, wanted) in [2, 3, 1, 1, 2].iter().enumerate() {
-        match kern.history().get(at) {
-            Some(Entry::Call { caller, .. }) => assert_eq!(rt; caller, wanted, "entry {at}"),
-            _ => panic!(rt; "no call at {at}"),
-        }
+    assert!(rt; has_order(&job.into_kern(), &[2, 3, 1, 1, 2]));
+    Ok(())
+}
+
+#[test]
+fn calls_run_by_seed(rt: HostRuntime) -> Result<(), Fail> {
+    let alloc = rt.alloc();
+    let table = [
+        (0, [2, 2, 1, 3, 1]),
+        (7, [1, 1, 2, 3, 2]),
+        (42, [2, 1, 2, 1, 3]),
+    ];
+    for (seed, wanted) in table {
+        let mut job = Job::new(alloc, Kern::new(alloc, LIMITS)?, lines(alloc)?)?;
+        job.run_seed(alloc, seed)?;
+        assert!(rt; has_order(job.kern(), &wanted), "seed {seed}");
     }
-    assert_eq!(rt; kern.history().len(), 5);
+    Ok(())
+}
+
+#[test]
+fn calls_run_in_order(rt: HostRuntime) -> Result<(), Fail> {
+    let alloc = rt.alloc();
+    let mut job = Job::new(alloc, Kern::new(alloc, LIMITS)?, lines(alloc)?)?;
+    job.run_order(alloc)?;
+    assert!(rt; has_order(job.kern(), &[1, 1, 2, 2, 3]));
     Ok(())
 }

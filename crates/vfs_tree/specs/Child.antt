@@ -75,7 +75,7 @@ low_within (suc k) f look s upper lower u =
     low_case f look s lower (low_within k f look s upper lower) u (u == upper) (is_opaque f s u || (u == 1))
 
 -- more steps than a directory has directories above it, and than there are mounts
-abbrev pub steps : ℕ
+unfoldable pub steps : ℕ
 steps = 4294967295
 
 -- a directory that isn't linked has no lower part

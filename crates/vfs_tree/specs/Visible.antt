@@ -1,5 +1,5 @@
 -- The names that a directory shows.
-use Rattle.std.specs.Prelude.{ℕ, zero, suc, Bool, if◌then◌else◌, List, [], ◌∷◌, Option, Some, None, is_some}
+use Rattle.std.specs.Prelude.{ℕ, zero, suc, Bool, true, false, if◌then◌else◌, List, [], ◌∷◌, Option, Some, None, is_some}
 use Rattle.std.specs.List.{filter_map, fold}
 use Rattle.std.specs.FinMap.{get, insert, entries, empty, contains_key}
 use Rattle.vfs_tree.specs.Place.{Seen, Mem, Null, UnionUp, UnionLow, mount_of}
@@ -66,3 +66,16 @@ visible_within (suc k) w (UnionLow m u n p) = Go []
 -- of the listing too.
 abbrev pub visible : World → Seen → Listed
 visible w d = visible_within (suc (mount_of d)) w d
+
+-- whether there is a name
+abbrev pub is_some_name : List (List ℕ) → Bool
+is_some_name [] = false
+is_some_name (n ∷ names) = true
+
+-- whether there is a name in a listing, or what it needs first
+abbrev pub any_listed : Listed → Step Bool Need
+any_listed listed = listed >>= (λ names. Go (is_some_name names))
+
+-- whether a directory shows a name; a lower part that needs a shadow directory first is a need of this too
+abbrev pub has_visible : World → Seen → Step Bool Need
+has_visible w d = any_listed (visible w d)

@@ -1,4 +1,4 @@
-use Rattle.std.proofs.Common.{ℕ, ◌+◌, ◌*◌}
+use Rattle.std.proofs.Common.{◌+◌, ◌*◌}
 use Rattle.plain_views.proofs.references.+standing.Given as goal
 
 -- by the steps that are left, a mount before its layers

@@ -1,9 +1,8 @@
 use Rattle.std.proofs.Common.{◌≡◌, map}
-use Rattle.std.specs.Prelude.{◌==◌, ◌&&◌, ◌||◌, not}
+use Rattle.std.specs.Prelude.{◌==◌, ◌||◌}
 use Rattle.std.specs.List.{list_any}
 use Rattle.std.specs.FinMap.{values}
-use Rattle.vfs_tree.specs.Place.{mount_of}
-use Rattle.vfs_tree.specs.Mounts.{covers_in, is_of, layers}
+use Rattle.vfs_tree.specs.Mounts.{covers_in, layers}
 use Rattle.plain_views.proofs.references.is_mounted_in.Given as goal
 
 -- those that are left answer for all

@@ -9,5 +9,5 @@ new-requires-2-clause-fits c = fits_script c.args.script _ _ c.requires (ap (λ 
 
 pub returns : goal.returns
 returns c =
-    let run = has_run c.args.script c.in_ok-kern.kern c.in_ok-job.job c.run_seed.new.self _ c.in_ok-kern.ensures c.in_ok-job.ensures.kern c.in_ok-job.ensures.each_call c.into_vec.ensures c.in_ok-run_seed.ensures.runs c.in_ok-run_seed.ensures.done in
-    subst (λ (k : Kernel). HasRun c.args.script k) (sym c.into_kern.ensures) run
+    let run = has_run c.args.turns c.args.script c.in_ok-kern.kern c.in_ok-job.job c.run_job.new.job _ c.in_ok-kern.ensures c.in_ok-job.ensures.kern c.in_ok-job.ensures.each_call c.in_ok-job.ensures.left c.into_vec.ensures c.in_ok-run_job.ensures.runs c.in_ok-run_job.ensures.done c.in_ok-run_job.ensures.in_turn in
+    subst (λ (k : Kernel). HasRun c.args.turns c.args.script k) (sym c.into_kern.ensures) run

@@ -1,0 +1,11 @@
+pub mod WeightLaws
+pub mod LiveCount
+pub mod Parts
+pub mod NameParts
+pub mod DataParts
+pub mod MountParts
+pub mod RowLaws
+pub mod LiveLaws
+pub mod LeavingLaws
+pub mod WorkLaws
+pub mod RevokeLaws

@@ -1,0 +1,4 @@
+pub mod Live
+pub mod Leaving
+pub mod Fitting
+pub mod Revoking

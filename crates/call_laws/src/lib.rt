@@ -1,0 +1,19 @@
+//! Laws of the calls: what every call and every inner entry does to what is left in a world.
+//!
+//! Each law is the contract of a function without a body's work: who holds the function's contract has the law.
+#![tactic(auto)]
+
+mod fits;
+mod leaving;
+mod live;
+mod revoking;
+mod work;
+
+pub use fits::{a_leaver_goes_on, a_row_fits};
+pub use leaving::an_entry_keeps_leavers;
+pub use live::{a_doom_leaves_fewer_live, an_entry_adds_no_live};
+pub use revoking::{
+    a_doom_leaves_the_walk_of_a_revoke, a_revoke_dooms_the_first_open_file,
+    a_revoke_that_dooms_has_found_a_file, the_first_open_file_is_there,
+};
+pub use work::an_entry_uses_up_work;

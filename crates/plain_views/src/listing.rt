@@ -1,0 +1,182 @@
+// The names that a directory shows.
+ghost use Rattle.std.specs.Prelude.{◌≡◌, [], suc, IfOk};
+ghost use Rattle.vfs_tree.specs.Layers.{kind_in, store_by};
+ghost use Rattle.vfs_tree.specs.Place.{UnionUp};
+ghost use Rattle.vfs_tree.specs.declared.walk.Step.TheVariants.{Go};
+ghost use Rattle.vfs_tree.specs.Views.{facts_of};
+ghost use Rattle.vfs_tree.specs.Visible as listing;
+
+use crate::shown::{given_at, has_given_at, merged_at};
+use std::alloc::{AllocError, Global};
+use vfs_paths::low;
+use vfs_tree::{Child, MountKind, NameList, Need, Place, Step, View, World};
+
+/// The mount number of the memory file system in which a union has its upper layer; 0 where the mount is no union.
+fn upper_store(world: &World, mount: u32) -> u32
+    ensures { result ≡ store_by (kind_in (facts_of world.now) mount) }
+{
+    match world.mounts.get(mount) {
+        Some(found) => match &found.kind {
+            MountKind::Mem => 0,
+            MountKind::Null { .. } => 0,
+            MountKind::Union { store, .. } => *store,
+        },
+        None => 0,
+    }
+}
+
+/// No names.
+fn nothing(alloc: Global) -> Step<NameList, Need>
+    ensures { result ≡ Go [] }
+{
+    Step::Go {
+        value: NameList::of(Vec::new(alloc)),
+    }
+}
+
+/// The names of a lower part, where there is one.
+#[cycle(lower)]
+fn listed_below(
+    alloc: Global,
+    world: &World,
+    steps: u64,
+    below: Child,
+) -> Result<Step<NameList, Need>, AllocError>
+    ensures { IfOk result (λ step. step ≡ listing.listed_below (listing.visible_within steps world.now) below) }
+{
+    match below {
+        Child::At { place } => visible_within(alloc, world, steps, &place),
+        Child::Absent => Ok(nothing(alloc)),
+        Child::Need { need } => Ok(Step::Wants { what: need }),
+    }
+}
+
+/// The names of a union's directory, through at most that many mounts below it.
+#[cycle(lower)]
+fn visible_union(
+    alloc: Global,
+    world: &World,
+    steps: u64,
+    mount: u32,
+    dir: u32,
+) -> Result<Step<NameList, Need>, AllocError>
+    ensures { IfOk result (λ step. step ≡ listing.visible_within (suc steps) world.now (UnionUp mount dir)) }
+{
+    let below = low(alloc, world, mount, dir)?;
+    match listed_below(alloc, world, steps, below)? {
+        Step::Go { value } => Ok(Step::Go {
+            value: merged_at(alloc, world, upper_store(world, mount), dir, &value)?,
+        }),
+        Step::Refuse { errno } => Ok(Step::Refuse { errno }),
+        Step::Wants { what } => Ok(Step::Wants { what }),
+    }
+}
+
+/// The names that a directory shows, through at most that many mounts.
+#[cycle(lower)]
+fn visible_within(
+    alloc: Global,
+    world: &World,
+    steps: u64,
+    place: &Place,
+) -> Result<Step<NameList, Need>, AllocError>
+    ensures { IfOk result (λ step. step ≡ listing.visible_within steps world.now place.now) }
+{
+    if steps == 0 {
+        return Ok(nothing(alloc));
+    }
+    match &place.view {
+        View::Mem { mount, ino } => Ok(Step::Go {
+            value: given_at(alloc, world, *mount, *ino)?,
+        }),
+        View::Null { lower, .. } => Ok(visible_within(alloc, world, steps - 1, lower)?),
+        View::UnionUp { mount, ino } => {
+            Ok(visible_union(alloc, world, steps - 1, *mount, *ino)?)
+        }
+        View::UnionLow { .. } => Ok(nothing(alloc)),
+    }
+}
+
+/// The names that a directory shows, once each, in byte order; where its lower part needs a shadow directory first, that
+/// need. The only fault is want of memory.
+pub fn visible(
+    alloc: Global,
+    world: &World,
+    place: &Place,
+) -> Result<Step<NameList, Need>, AllocError>
+    ensures { IfOk result (λ step. step ≡ listing.visible world.now place.now) }
+{
+    visible_within(alloc, world, u64::from(place.mount()) + 1, place)
+}
+
+/// Whether a union's directory shows a name, through at most that many mounts below it.
+fn has_visible_union(
+    alloc: Global,
+    world: &World,
+    steps: u64,
+    mount: u32,
+    dir: u32,
+) -> Result<Step<bool, Need>, AllocError>
+    ensures { IfOk result (λ step. step ≡ listing.any_listed (listing.visible_within (suc steps) world.now (UnionUp mount dir))) }
+{
+    let store = upper_store(world, mount);
+    let lower = match low(alloc, world, mount, dir)? {
+        Child::At { place } => place,
+        Child::Absent => {
+            return Ok(Step::Go {
+                value: has_given_at(world, store, dir),
+            });
+        }
+        Child::Need { need } => return Ok(Step::Wants { what: need }),
+    };
+    match visible_within(alloc, world, steps, &lower)? {
+        Step::Go { value } => Ok(Step::Go {
+            value: has_name(&merged_at(alloc, world, store, dir, &value)?),
+        }),
+        Step::Refuse { errno } => Ok(Step::Refuse { errno }),
+        Step::Wants { what } => Ok(Step::Wants { what }),
+    }
+}
+
+/// Whether there is a name.
+fn has_name(names: &NameList) -> bool
+    ensures { result ≡ listing.is_some_name names.now }
+{
+    !names.is_empty()
+}
+
+/// Whether a directory shows a name, through at most that many mounts.
+fn has_visible_within(
+    alloc: Global,
+    world: &World,
+    steps: u64,
+    place: &Place,
+) -> Result<Step<bool, Need>, AllocError>
+    ensures { IfOk result (λ step. step ≡ listing.any_listed (listing.visible_within steps world.now place.now)) }
+{
+    if steps == 0 {
+        return Ok(Step::Go { value: false });
+    }
+    match &place.view {
+        View::Mem { mount, ino } => Ok(Step::Go {
+            value: has_given_at(world, *mount, *ino),
+        }),
+        View::Null { lower, .. } => Ok(has_visible_within(alloc, world, steps - 1, lower)?),
+        View::UnionUp { mount, ino } => {
+            Ok(has_visible_union(alloc, world, steps - 1, *mount, *ino)?)
+        }
+        View::UnionLow { .. } => Ok(Step::Go { value: false }),
+    }
+}
+
+/// Whether a directory shows a name; where its lower part needs a shadow directory first, that need. A list of names is
+/// made only of a union's directory that has a lower part. The only fault is want of memory.
+pub fn has_visible(
+    alloc: Global,
+    world: &World,
+    place: &Place,
+) -> Result<Step<bool, Need>, AllocError>
+    ensures { IfOk result (λ step. step ≡ listing.has_visible world.now place.now) }
+{
+    has_visible_within(alloc, world, u64::from(place.mount()) + 1, place)
+}

@@ -1,0 +1,10 @@
+pub mod Outcomes
+pub mod Parts
+pub mod Lists
+pub mod Steps
+pub mod Way
+pub mod Below
+pub mod TurnLaws
+pub mod Ends
+pub mod WalkLaws
+pub mod CrossingLaws

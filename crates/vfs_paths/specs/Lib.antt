@@ -1,0 +1,5 @@
+pub mod Parts
+pub mod Going
+pub mod Way
+pub mod Turns
+pub mod View
