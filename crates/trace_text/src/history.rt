@@ -2,10 +2,9 @@ ghost use Rattle.std.specs.Prelude.{◌≡◌, [], ◌∷◌, ◌++◌, OnOk};
 ghost use Rattle.trace_text.specs.History.{entry_text, history_text};
 
 use crate::inner::put_inner;
-use crate::number::put_number;
 use crate::reply::put_reply;
 use call_model::Entry;
-use script_text::put_call;
+use script_text::{put_call, put_number};
 use std::alloc::AllocError;
 
 fn put_entry(out: &mut Vec<u8>, entry: &Entry) -> Result<(), AllocError>

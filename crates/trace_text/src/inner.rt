@@ -1,9 +1,8 @@
 ghost use Rattle.std.specs.Prelude.{◌≡◌, ◌++◌, OnOk};
 ghost use Rattle.trace_text.specs.Inner.{union_name_text, ref_text, inner_text};
 
-use crate::number::put_number;
 use call_model::{Inner, Ref};
-use script_text::put_word;
+use script_text::{put_number, put_word};
 use std::alloc::AllocError;
 use vfs_tree::Name;
 

@@ -6,7 +6,6 @@ mod inner;
 mod laws;
 mod mount;
 mod node;
-mod number;
 mod output;
 mod place;
 mod reply;

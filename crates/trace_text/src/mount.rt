@@ -1,8 +1,8 @@
 ghost use Rattle.std.specs.Prelude.{◌≡◌, ◌++◌, OnOk};
 ghost use Rattle.trace_text.specs.Mount.{mount_kind_word, on_text, layers_text, cut_text, mount_head, mount_text};
 
-use crate::number::put_number;
 use crate::place::{put_numbers, put_place};
+use script_text::put_number;
 use std::alloc::AllocError;
 use vfs_tree::{Mount, MountKind, Place};
 

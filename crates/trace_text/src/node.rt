@@ -2,8 +2,7 @@ ghost use Rattle.std.specs.Prelude.{◌≡◌, ◌++◌, flat_map, OnOk};
 ghost use Rattle.std.specs.FinMap.{entries};
 ghost use Rattle.trace_text.specs.Node.{run_text, runs_text, name_text, opaque_text, node_text};
 
-use crate::number::put_number;
-use script_text::put_word;
+use script_text::{put_number, put_word};
 use std::alloc::AllocError;
 use vfs_tree::{Name, NameEntry, NameMap, Node};
 

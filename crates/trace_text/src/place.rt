@@ -1,8 +1,7 @@
 ghost use Rattle.std.specs.Prelude.{◌≡◌, ◌++◌, OnOk};
 ghost use Rattle.trace_text.specs.Place.{numbers_text, place_text};
 
-use crate::number::put_number;
-use script_text::put_word;
+use script_text::{put_number, put_word};
 use std::alloc::AllocError;
 use vfs_tree::{Place, View};
 

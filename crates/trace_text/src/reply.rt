@@ -1,9 +1,8 @@
 ghost use Rattle.std.specs.Prelude.{◌≡◌, ◌++◌, OnOk};
 ghost use Rattle.trace_text.specs.Reply.{kind_text, mount_word_text, names_text, reply_text};
 
-use crate::number::put_number;
 use call_model::{MountWord, Reply};
-use script_text::put_word;
+use script_text::{put_number, put_word};
 use std::alloc::AllocError;
 use vfs_tree::{Kind, Name, errno_text};
 

@@ -3,9 +3,9 @@ ghost use Rattle.std.specs.List.{list_any};
 ghost use Rattle.std.specs.FinMap.{get, len};
 ghost use Rattle.trace_text.specs.Summary.{is_call, is_inner, is_done, is_refused, lacks_memory, callers_of, AreCounts, count_text, calls_text, rest_text, summary_text};
 
-use crate::number::put_number;
 use call_model::{Entry, Reply};
 use finite_maps::NumberMap;
+use script_text::put_number;
 use std::alloc::{AllocError, Global};
 use vfs_tree::{Errno, World};
 

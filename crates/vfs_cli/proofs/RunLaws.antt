@@ -19,7 +19,7 @@ use Rattle.vfs_core.specs.Work.{Work}
 use Rattle.vfs_core.specs.Queues.{queue_at}
 use Rattle.vfs_core.specs.Turning.{FitsJob, Runs, IsDone, calls_with, HasLeft, lines_of}
 use Rattle.script_text.specs.Script.{HasText}
-use Rattle.vfs_cli.specs.Output.{HasRun, IsInTurn, TakesTurns}
+use Rattle.vfs_cli.specs.Output.{IsFor, HasRun, IsInTurn, TakesTurns}
 use Rattle.vfs_cli.specs.declared.words.Turns.{Turns}
 use Rattle.vfs_cli.specs.declared.words.Turns.TheVariants.{Scattered, InOrder}
 
@@ -36,24 +36,30 @@ pub fits_script : (script : Script) (limits : Limits) (lines : List Line) → Ha
 fits_script script limits lines text same are =
     subst (λ (x : List Line). AllByRecursion (FitsJob limits) x) (sym are) (subst (λ (l : Limits). AllByRecursion (FitsJob l) script.lines) (sym same) (fits_lines script.limits script.lines text.each))
 
+-- a job that was made of the script's lines is for it
+pub is_for : (script : Script) (kern : Kernel) (job : Work) (lines : List Line) → kern ≡ record { limits = script.limits; history = []; pending = empty } → job.kern ≡ kern
+    → ((c : ℕ) → calls_with job c ≡ calls_of c kern.history ++ calls_in c lines) → HasLeft lines job → lines ≡ script.lines → IsFor script job
+is_for script kern job lines new is each left are = record {
+  limits = ap (λ (k : Kernel). k.limits) (is ∙ new);
+  history = ap (λ (k : Kernel). k.history) (is ∙ new);
+  calls = λ c. each c ∙ ap (λ (k : Kernel). calls_of c k.history ++ calls_in c lines) new ∙ ap (calls_in c) are;
+  left = subst (λ (x : List Line). HasLeft x job) are left;
+}
+
 -- where the lines were to be run in their order, they are the call entries
-in_turn : (turns : Turns) (script : Script) (start end : Work) (lines : List Line) → start.kern.history ≡ [] → HasLeft lines start → lines ≡ script.lines → TakesTurns turns start end → IsInTurn turns script end.kern.history
-in_turn (Scattered seed) script start end lines none left are takes = tt
-in_turn InOrder script start end lines none left are takes = takes lines left ∙ ap (λ h. lines_of h ++ lines) none ∙ are
+in_turn : (turns : Turns) (script : Script) (start end : Work) → IsFor script start → TakesTurns turns start end → IsInTurn turns script end.kern.history
+in_turn (Scattered seed) script start end for takes = tt
+in_turn InOrder script start end for takes = takes script.lines for.left ∙ ap (λ h. lines_of h ++ script.lines) for.history
 
 -- a job that is done has run the script
-pub has_run : (turns : Turns) (script : Script) (kern : Kernel) (start end : Work) (lines : List Line) → kern ≡ record { limits = script.limits; history = []; pending = empty } → start.kern ≡ kern
-    → ((c : ℕ) → calls_with start c ≡ calls_of c kern.history ++ calls_in c lines) → HasLeft lines start → lines ≡ script.lines → Runs start end → ((c : ℕ) → IsDone end c) → TakesTurns turns start end → HasRun turns script end.kern
-has_run turns script kern start end lines new is each left are runs done takes =
-    let limits : kern.limits ≡ script.limits = ap (λ (k : Kernel). k.limits) new in
-    let none : kern.history ≡ [] = ap (λ (k : Kernel). k.history) new in
-    record {
-      limits = runs.limits ∙ ap (λ (k : Kernel). k.limits) is ∙ limits;
-      idle = same_map nat_cmp_total nat_cmp-IsAntisymmetric end.kern.pending empty (λ c. (done c).live ∙ sym (get-empty nat_cmp c));
-      calls = λ c.
-          let rest : calls_with end c ≡ calls_of c end.kern.history = ap (λ o. calls_of c end.kern.history ++ (option_to_list o ++ queue_at end.left c)) (done c).live
-          ∙ ap (λ (t : List Call). calls_of c end.kern.history ++ t) (done c).left ∙ append-nil (calls_of c end.kern.history)
-          in
-          sym rest ∙ runs.each_call c ∙ each c ∙ ap (λ h. calls_of c h ++ calls_in c lines) none ∙ ap (calls_in c) are;
-      in_turn = in_turn turns script start end lines (ap (λ (k : Kernel). k.history) is ∙ none) left are takes;
-    }
+pub has_run : (turns : Turns) (script : Script) (start end : Work) → IsFor script start → Runs start end → ((c : ℕ) → IsDone end c) → TakesTurns turns start end → HasRun turns script end.kern
+has_run turns script start end for runs done takes = record {
+  limits = runs.limits ∙ for.limits;
+  idle = same_map nat_cmp_total nat_cmp-IsAntisymmetric end.kern.pending empty (λ c. (done c).live ∙ sym (get-empty nat_cmp c));
+  calls = λ c.
+      let rest : calls_with end c ≡ calls_of c end.kern.history = ap (λ o. calls_of c end.kern.history ++ (option_to_list o ++ queue_at end.left c)) (done c).live
+      ∙ ap (λ (t : List Call). calls_of c end.kern.history ++ t) (done c).left ∙ append-nil (calls_of c end.kern.history)
+      in
+      sym rest ∙ runs.each_call c ∙ for.calls c;
+  in_turn = in_turn turns script start end for takes;
+}

@@ -1,5 +1,5 @@
 -- What a run of a script writes.
-use Rattle.std.specs.Prelude.{◌≡◌, ℕ, List, ◌++◌}
+use Rattle.std.specs.Prelude.{◌≡◌, ℕ, List, [], ◌++◌}
 use Rattle.std.specs.FinMap.{empty}
 use Rattle.vfs_tree.specs.Start.{start_world}
 use Rattle.vfs_tree.specs.declared.world.World.{World}
@@ -12,7 +12,7 @@ use Rattle.script_text.specs.declared.script.Script.{Script}
 use Rattle.trace_text.specs.Output.{output_text}
 use Rattle.trace_text.specs.Summary.{summary_text}
 use Rattle.vfs_core.specs.Kernel.{Kernel}
-use Rattle.vfs_core.specs.Turning.{lines_of, HasLeft}
+use Rattle.vfs_core.specs.Turning.{lines_of, HasLeft, calls_with}
 use Rattle.vfs_core.specs.Work.{Work}
 use Rattle.vfs_cli.specs.declared.words.Turns.{Turns}
 use Rattle.vfs_cli.specs.declared.words.Turns.TheVariants.{Scattered, InOrder}
@@ -36,6 +36,13 @@ TakesTurns InOrder old new = (lines : List Line) → HasLeft lines old → lines
 -- the world that a history of a script leaves
 abbrev pub world_left : Script → List Entry → World
 world_left script history = replay (start_world script.limits) history
+
+-- a job of the script's calls, none of which was begun
+pub record IsFor (script : Script) (job : Work) : Type 0 where
+  pub limits : job.kern.limits ≡ script.limits
+  pub history : job.kern.history ≡ []
+  pub calls : (c : ℕ) → calls_with job c ≡ calls_in c script.lines
+  pub left : HasLeft script.lines job
 
 -- the kernel has run the script: no call is pending, and each caller's calls in the history are those of the script
 pub record HasRun (turns : Turns) (script : Script) (kern : Kernel) : Type 0 where

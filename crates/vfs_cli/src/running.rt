@@ -2,7 +2,7 @@
 ghost use Rattle.std.specs.Prelude.{◌≡◌, ◌≤◌, ℕ, IfOk, OnOk};
 ghost use Rattle.script_text.specs.Script.{HasText, script_text};
 ghost use Rattle.vfs_core.specs.Turning.{Runs, IsDone};
-ghost use Rattle.vfs_cli.specs.Output.{HasRun, TakesTurns, Outputs, Sums, generated};
+ghost use Rattle.vfs_cli.specs.Output.{IsFor, HasRun, TakesTurns, Outputs, Sums, generated};
 
 use crate::words::Turns;
 use script_text::{Script, gen_script, print_script};
@@ -23,13 +23,21 @@ fn run_job(alloc: Global, job: &mut Job, turns: Turns) -> Result<(), AllocError>
     }
 }
 
+/// A job of the calls of the script. The only fault is want of memory.
+pub fn job_of(alloc: Global, script: Script) -> Result<Job, AllocError>
+    requires { HasText script }
+    ensures { IfOk result (IsFor script) }
+{
+    let kern = Kern::new(alloc, script.limits)?;
+    Job::new(alloc, kern, script.lines.into_vec())
+}
+
 /// The kernel after all calls of the script. The only fault is want of memory.
 fn run_calls(alloc: Global, script: Script, turns: Turns) -> Result<Kern, AllocError>
     requires { HasText script }
     ensures { IfOk result (HasRun turns script) }
 {
-    let kern = Kern::new(alloc, script.limits)?;
-    let mut job = Job::new(alloc, kern, script.lines.into_vec())?;
+    let mut job = job_of(alloc, script)?;
     run_job(alloc, &mut job, turns)?;
     Ok(job.into_kern())
 }

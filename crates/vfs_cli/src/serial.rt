@@ -247,6 +247,13 @@ pub fn serial_main<S: Source, K: Sink>(
     ensures complete_made { (command : Command) → command_of (map string_bytes words.now) ≡ Some command → reads command ≡ false
         → (Rose (K.faults sink.old) (K.faults sink.new) → ⊥)
         → (result.code ≡ 0) ⊎ (result.code ≡ 12) }
+    // And the bad line is told of what is no script.
+    ensures complete_bad { (turns : Turns) (bytes : List ℕ) → ((script : Script) → HasText script → IsTextOf script bytes → ⊥) → length bytes < 1048577
+        → command_of (map string_bytes words.now) ≡ Some (Run turns)
+        → S.left source.old ≡ Some bytes
+        → (Rose (S.faults source.old) (S.faults source.new) → ⊥)
+        → (Rose (K.faults sink.old) (K.faults sink.new) → ⊥)
+        → (result.code ≡ 65) ⊎ (result.code ≡ 12) }
 {
     status_of(serve(alloc, words, source, sink))
 }

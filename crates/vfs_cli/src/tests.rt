@@ -1,7 +1,14 @@
+use crate::running::job_of;
 use crate::serial::{Status, serial_main, sure_main};
+use script_text::gen_script;
 use std::alloc::{AllocError, Global};
+use std::process::Abort;
 use std::test::Fail;
+use trace_text::print_history;
+use turn_order::pick;
+use vfs_core::{Job, Kern, Turned};
 use vfs_flow::{MemSink, MemSource, SureSink, SureSource};
+use vfs_tree::Bytes;
 
 const EMPTY: &[u8] = b"vfs 1\nend\n";
 
@@ -168,3 +175,63 @@ fn each_failing_write_ends_the_run(rt: HostRuntime) -> Result<(), Fail> {
 }
 
 // A text with a word in its middle.
+
+fn history_of(alloc: Global, kern: &Kern) -> Result<Bytes, AllocError> {
+    let mut text = Bytes::new(alloc);
+    print_history(alloc, kern.history(), &mut text)?;
+    Ok(text)
+}
+
+// The callers from 1 to 4 that have a call live or left.
+fn ready(alloc: Global, job: &Job, left: [u32; 4]) -> Result<Vec<u32>, AllocError> {
+    let mut callers = Vec::new(alloc);
+    for (at, calls) in left.iter().enumerate() {
+        let caller = at as u32 + 1;
+        if *calls > 0 || job.kern().is_live(caller) {
+            callers.push(caller)?;
+        }
+    }
+    Ok(callers)
+}
+
+// The generator's script of 200 calls has 56 of caller 1, and 48 of each of the callers 2, 3 and 4.
+fn turn_by_hand(
+    rt: &impl Abort,
+    alloc: Global,
+    job: &mut Job,
+    seed: u64,
+) -> Result<(), AllocError> {
+    let mut left = [56, 48, 48, 48];
+    for turn in 0..2_000 {
+        let callers = ready(alloc, job, left)?;
+        if callers.is_empty() {
+            return Ok(());
+        }
+        let place = pick(seed, turn, callers.len().min(4) as u32) as usize;
+        let Some(caller) = callers.get(place).copied() else {
+            panic!(rt; "no caller at {place}")
+        };
+        assert!(rt; 1 <= caller && caller <= job.kern().limits().callers);
+        if let Turned::Began = job.turn(alloc, caller) {
+            if let Some(calls) = left.get_mut(caller as usize - 1) {
+                *calls = calls.saturating_sub(1);
+            }
+        }
+    }
+    panic!(rt; "calls are left")
+}
+
+#[test]
+fn turns_fall_by_the_seed(rt: HostRuntime) -> Result<(), Fail> {
+    let alloc = rt.alloc();
+    for seed in 0..10 {
+        let mut by_seed = job_of(alloc, gen_script(alloc, seed, 200)?)?;
+        by_seed.run_seed(alloc, seed)?;
+        let mut by_hand = job_of(alloc, gen_script(alloc, seed, 200)?)?;
+        turn_by_hand(&rt, alloc, &mut by_hand, seed)?;
+        let one = history_of(alloc, by_seed.kern())?;
+        let other = history_of(alloc, by_hand.kern())?;
+        assert_eq!(rt; one.as_slice(), other.as_slice(), "seed {seed}");
+    }
+    Ok(())
+}
