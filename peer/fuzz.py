@@ -450,6 +450,16 @@ def difference(want, got):
     return '\n'.join(lines)
 
 
+def kept(name, script):
+    """Keeps a script that failed, and says where."""
+    folder = os.path.join(HERE, 'failing')
+    os.makedirs(folder, exist_ok=True)
+    where = os.path.join(folder, name)
+    with open(where, 'wb') as f:
+        f.write(script)
+    return where
+
+
 def compare(program, seed, count, only=None):
     runs = failures = scripts = 0
     for i in range(count):
@@ -466,11 +476,7 @@ def compare(program, seed, count, only=None):
                 continue
             failed = True
             failures += 1
-            where = os.path.join(HERE, 'failing')
-            os.makedirs(where, exist_ok=True)
-            where = os.path.join(where, '%d-%d.vfs' % (seed, i))
-            with open(where, 'wb') as f:
-                f.write(script)
+            where = kept('%d-%d.vfs' % (seed, i), script)
             print('---- %s, %s' % (where, ' '.join(words)))
             print(difference(want, got))
         if failures == 10:
@@ -538,11 +544,7 @@ def legal(program, seed, count, form='seed'):
             why = illegal(script, out) if code == 0 else 'status %s' % code
             if why:
                 failures += 1
-                where = os.path.join(HERE, 'failing')
-                os.makedirs(where, exist_ok=True)
-                where = os.path.join(where, 'legal-%d-%d.vfs' % (seed, i))
-                with open(where, 'wb') as f:
-                    f.write(script)
+                where = kept('legal-%d-%d.vfs' % (seed, i), script)
                 print('---- %s, %s' % (where, ' '.join(words)))
                 print(why)
                 break
@@ -607,11 +609,7 @@ def badlines(program, seed, count):
         kinds[want[0]] += 1
         if want != got:
             failures += 1
-            where = os.path.join(HERE, 'failing')
-            os.makedirs(where, exist_ok=True)
-            where = os.path.join(where, 'bad-%d-%d.vfs' % (seed, i))
-            with open(where, 'wb') as f:
-                f.write(script)
+            where = kept('bad-%d-%d.vfs' % (seed, i), script)
             print('----', where)
             print(difference(want, got))
             if failures == 10:

@@ -480,6 +480,16 @@ class World:
         b = self.bare(place)
         return b[0] == 'U' and self.low(b[1], b[2]) is not None
 
+    def present(self, c, path, dot):
+        """The directory and the last name of a path, and what stands there, which must be something;
+        the error `dot` where the path ends with no name."""
+        r = self.walk(c, path, 'Parent')
+        if r is None:
+            raise Fail(dot)
+        if r[2] is None:
+            raise Fail('ENOENT')
+        return r
+
     def do_mkdir(self, c, paths, a):
         r = self.walk(c, paths[0], 'Parent')
         if r is None or r[2] is not None:
@@ -488,12 +498,7 @@ class World:
         return ('ok',)
 
     def do_rmdir(self, c, paths, a):
-        r = self.walk(c, paths[0], 'Parent')
-        if r is None:
-            raise Fail('EINVAL')
-        d, n, q = r
-        if q is None:
-            raise Fail('ENOENT')
+        d, n, q = self.present(c, paths[0], 'EINVAL')
         if not self.is_dir(q):
             raise Fail('ENOTDIR')
         if self.busy(q):
@@ -671,12 +676,7 @@ class World:
         return ('names', self.visible(o.place))
 
     def do_unlink(self, c, paths, a):
-        r = self.walk(c, paths[0], 'Parent')
-        if r is None:
-            raise Fail('EPERM')
-        d, n, q = r
-        if q is None:
-            raise Fail('ENOENT')
+        d, n, q = self.present(c, paths[0], 'EPERM')
         if self.is_dir(q):
             raise Fail('EPERM')
         self.drop(d, n)
@@ -684,12 +684,7 @@ class World:
 
     def do_rename(self, c, paths, a):
         # 1
-        r = self.walk(c, paths[0], 'Parent')
-        if r is None:
-            raise Fail('EINVAL')
-        da, na, src = r
-        if src is None:
-            raise Fail('ENOENT')
+        da, na, src = self.present(c, paths[0], 'EINVAL')
         # 2
         r = self.walk(c, paths[1], 'Parent')
         if r is None:
