@@ -8,3 +8,5 @@ pub mod Rows
 pub mod Apply
 pub mod Effects
 pub mod Legal
+pub mod Kept
+pub mod NameEdits

@@ -22,3 +22,5 @@ pub mod Visible
 pub mod StoreEdits
 pub mod FileEdits
 pub mod Carriers
+pub mod Shown
+pub mod Sound
