@@ -1,5 +1,5 @@
 -- What the calls on descriptors and on contents leave and need.
-use Rattle.std.proofs.Common.{◌≡◌, ℕ, zero, suc, ◌+◌, ℤ, pos, negsuc, Bool, true, false, not, ◌&&◌, List, [], ◌∷◌, length, refl, ap, arith}
+use Rattle.std.proofs.Common.{◌≡◌, ℕ, zero, suc, ◌+◌, ℤ, pos, negsuc, Bool, true, false, not, ◌&&◌, List, [], ◌∷◌, length, refl, ap, ◌∙◌, arith}
 use Rattle.std.specs.Prelude.{Option, Some, None, nat_lt, is_some, ◌+ℤ◌}
 use Rattle.std.specs.FinMap.{get, remove, len}
 use Rattle.vfs_tree.specs.FileEdits.{written, resized}
@@ -19,7 +19,9 @@ use Rattle.call_model.specs.NameRows.{stat_of}
 use Rattle.call_model.specs.declared.call.Flags.{Flags}
 use Rattle.call_model.specs.declared.call.Whence.{Whence}
 use Rattle.call_model.specs.declared.entry.Inner.{Inner}
+use Rattle.call_laws.specs.Flags.{is_dead_open}
 use Rattle.call_laws.specs.Live.{live}
+use Rattle.call_laws.proofs.FlagLaws.{no_flag, no_flag-through, no_flag-open, no_flag-close}
 use Rattle.call_laws.proofs.LiveCount.{live_opens, live_cwds, live-parts, opens-insert, opens-remove}
 use Rattle.call_laws.proofs.Parts.{Keeps, Any, MakesNode, found_so, refused, then, unless, check, keeps-shadow, keeps-lifted, keeps-copied, keeps-place_at}
 use Rattle.call_laws.proofs.NameParts.{Alone, Plain, Ends, alone-itself, alone-edit, plain, plain-cwd, keeps-make, keeps-stat_of}
@@ -27,15 +29,15 @@ use Rattle.call_laws.proofs.NameParts.{Alone, Plain, Ends, alone-itself, alone-e
 -- ---- worlds
 
 -- a descriptor's open file is set
-plain-open : (w v : World) → Alone w v → (c d : ℕ) (o : Open) → Plain w (rows.with_open v c d o)
-plain-open w v h c d o =
+plain-open : (w v : World) → Alone w v → (c d : ℕ) (o : Open) → (o.dead ≡ true → is_dead_open (get w.opens (c, d)) ≡ true) → Plain w (rows.with_open v c d o)
+plain-open w v h c d o dead =
     let new : World = rows.with_open v c d o in
     let more = opens-insert v.opens (c, d) o in
     let before = live-parts w in
     let after : live new ≡ live_opens new.opens + live_cwds v.cwds = live-parts new in
     let opens = ap live_opens h.0 in
     let cwds = ap live_cwds h.1 in
-    record { most = omega arith; leaving = h.2 }
+    record { most = omega arith; leaving = h.2; flags = no_flag-through w v new (no_flag w v h.0 h.1) (record { opens = λ k e. no_flag-open v.opens (c, d) o (λ e. ap (λ m. is_dead_open (get m (c, d))) h.0 ∙ dead e) k e; cwds = λ c e. e }) }
 
 plain-close : (w : World) (c d : ℕ) (o : Open) → get w.opens (c, d) ≡ Some o → Plain w (record w { opens = remove w.opens (c, d) })
 plain-close w c d o is =
@@ -43,7 +45,7 @@ plain-close w c d o is =
     let less = opens-remove w.opens (c, d) o is in
     let before = live-parts w in
     let after : live new ≡ live_opens new.opens + live_cwds w.cwds = live-parts new in
-    record { most = omega arith; leaving = refl }
+    record { most = omega arith; leaving = refl; flags = record { opens = λ k e. no_flag-close w.opens (c, d) k e; cwds = λ c e. e } }
 
 plain-resize : (w : World) (p : Seen) (n : ℕ) → Plain w (rows.resize_at w p n)
 plain-resize w p n = plain w (rows.resize_at w p n) (alone-edit w p (λ t i. resized t i n))
@@ -54,7 +56,7 @@ keeps-opened : (N : Inner → Type 0) (x : Option Open) → Keeps (λ o. x ≡ S
 keeps-opened N (Some o) = found_so refl
 keeps-opened N None = refused
 
-keeps-descriptor : (w : World) (c d : ℕ) → Keeps (λ o. get w.opens (c, d) ≡ Some o) (MakesNode w) (rows.descriptor w c d)
+pub keeps-descriptor : (w : World) (c d : ℕ) → Keeps (λ o. get w.opens (c, d) ≡ Some o) (MakesNode w) (rows.descriptor w c d)
 keeps-descriptor w c d = keeps-opened (MakesNode w) (get w.opens (c, d))
 
 keeps-free_case : (N : Inner → Type 0) (next : Doing ℕ) (d : ℕ) (b : Bool) → Keeps Any N next → Keeps Any N (rows.free_case next d b)
@@ -80,12 +82,12 @@ keeps-open_there w c fd f p =
     unless (is_dir (facts_of w) p && rows.writes f.access) _ (λ _.
     unless (not (is_dir (facts_of w) p) && f.dir) _ (λ _.
     then (rows.copied_for (rows.writes f.access) w p) (keeps-copied_for (rows.writes f.access) w p) (λ _ _.
-    found_so (plain-open w (rows.cut_to f.cut w p) (alone-cut f.cut w p) c fd (record { place = p; offset = 0; mode = rows.mode_of f; dead = false }), refl))))
+    found_so (plain-open w (rows.cut_to f.cut w p) (alone-cut f.cut w p) c fd (record { place = p; offset = 0; mode = rows.mode_of f; dead = false }) (λ e. cc), refl))))
 
 keeps-open_made : (w : World) (c fd : ℕ) (f : Flags) (d : Seen) (n : List ℕ) → Keeps (Ends w) (MakesNode w) (rows.open_made w c fd f d n)
 keeps-open_made w c fd f d n =
     then (make_at w d n (File [])) (keeps-make w d n (File [])) (λ new h.
-    found_so (plain-open w new h c fd (record { place = rows.place_in d (next_of (get w.stores (base (facts_of w) d).store)); offset = 0; mode = rows.mode_of f; dead = false }), refl))
+    found_so (plain-open w new h c fd (record { place = rows.place_in d (next_of (get w.stores (base (facts_of w) d).store)); offset = 0; mode = rows.mode_of f; dead = false }) (λ e. cc), refl))
 
 keeps-open_found : (w : World) (c fd : ℕ) (f : Flags) (a : Found) → Keeps (Ends w) (MakesNode w) (rows.open_found w c fd f a)
 keeps-open_found w c fd f (found.At p) = keeps-open_there w c fd f p
@@ -107,18 +109,18 @@ keeps-close w c d = then (rows.descriptor w c d) (keeps-descriptor w c d) (λ o 
 
 -- ---- read(2) and pread(2)
 
-keeps-check_read : (w : World) (o : Open) (n : ℕ) → Keeps Any (MakesNode w) (rows.check_read w o n)
+pub keeps-check_read : (w : World) (o : Open) (n : ℕ) → Keeps Any (MakesNode w) (rows.check_read w o n)
 keeps-check_read w o n =
     unless o.dead _ (λ _. unless (not o.mode.read) _ (λ _. unless (is_dir (facts_of w) o.place) _ (λ _. check (nat_lt rows.most_moved n) _)))
 
-plain-offset : (w : World) (c d : ℕ) (o : Open) (at : ℕ) → Plain w (rows.with_offset w c d o at)
-plain-offset w c d o at = plain-open w w (alone-itself w) c d (record o { offset = at })
+plain-offset : (w : World) (c d : ℕ) (o : Open) → get w.opens (c, d) ≡ Some o → (at : ℕ) → Plain w (rows.with_offset w c d o at)
+plain-offset w c d o is at = plain-open w w (alone-itself w) c d (record o { offset = at }) (λ e. ap is_dead_open is ∙ e)
 
 pub keeps-read : (w : World) (c d n : ℕ) → Keeps (Ends w) (MakesNode w) (rows.read w c d n)
 keeps-read w c d n =
-    then (rows.descriptor w c d) (keeps-descriptor w c d) (λ o _.
+    then (rows.descriptor w c d) (keeps-descriptor w c d) (λ o is.
     then (rows.check_read w o n) (keeps-check_read w o n) (λ _ _.
-    found_so (plain-offset w c d o (o.offset + length (rows.piece (rows.bytes_of w o.place) o.offset n)), refl)))
+    found_so (plain-offset w c d o is (o.offset + length (rows.piece (rows.bytes_of w o.place) o.offset n)), refl)))
 
 pub keeps-pread : (w : World) (c d n at : ℕ) → Keeps (Ends w) (MakesNode w) (rows.pread w c d n at)
 keeps-pread w c d n at =
@@ -134,16 +136,16 @@ keeps-write_at : (w : World) (o : Open) (at : ℕ) (bytes : List ℕ) → Keeps 
 keeps-write_at w o at bytes =
     unless (nat_lt rows.most_bytes (at + length bytes)) _ (λ _. found_so (alone-edit w o.place (λ t i. written t i at bytes)))
 
-keeps-write_some : (w : World) (c d : ℕ) (o : Open) (bytes : List ℕ) → Keeps (Ends w) (MakesNode w) (rows.write_some w c d o bytes)
-keeps-write_some w c d o [] = found_so (plain w w (alone-itself w), refl)
-keeps-write_some w c d o (b ∷ bs) =
+keeps-write_some : (w : World) (c d : ℕ) (o : Open) → get w.opens (c, d) ≡ Some o → (bytes : List ℕ) → Keeps (Ends w) (MakesNode w) (rows.write_some w c d o bytes)
+keeps-write_some w c d o is [] = found_so (plain w w (alone-itself w), refl)
+keeps-write_some w c d o is (b ∷ bs) =
     then (rows.write_at w o (rows.write_to w o o.offset) (b ∷ bs)) (keeps-write_at w o (rows.write_to w o o.offset) (b ∷ bs)) (λ new h.
-    found_so (plain-open w new.0 h c d (record o { offset = new.1 }), refl))
+    found_so (plain-open w new.0 h c d (record o { offset = new.1 }) (λ e. ap is_dead_open is ∙ e), refl))
 
 pub keeps-write : (w : World) (c d : ℕ) (bytes : List ℕ) → Keeps (Ends w) (MakesNode w) (rows.write w c d bytes)
 keeps-write w c d bytes =
-    then (rows.descriptor w c d) (keeps-descriptor w c d) (λ o _.
-    then (rows.check_write o bytes) (keeps-check_write w o bytes) (λ _ _. keeps-write_some w c d o bytes))
+    then (rows.descriptor w c d) (keeps-descriptor w c d) (λ o is.
+    then (rows.check_write o bytes) (keeps-check_write w o bytes) (λ _ _. keeps-write_some w c d o is bytes))
 
 keeps-pwrite_some : (w : World) (o : Open) (at : ℕ) (bytes : List ℕ) → Keeps (Ends w) (MakesNode w) (rows.pwrite_some w o at bytes)
 keeps-pwrite_some w o at [] = found_so (plain w w (alone-itself w), refl)
@@ -157,15 +159,15 @@ keeps-pwrite w c d at bytes =
 
 -- ---- lseek(2)
 
-keeps-offset_of : (w : World) (i : ℤ) → Keeps Any (MakesNode w) (rows.offset_of i)
+pub keeps-offset_of : (w : World) (i : ℤ) → Keeps Any (MakesNode w) (rows.offset_of i)
 keeps-offset_of w (pos n) = unless (nat_lt 4294967295 n) _ (λ _. found_so tt)
 keeps-offset_of w (negsuc n) = refused
 
 pub keeps-lseek : (w : World) (c d : ℕ) (h : Whence) (i : ℤ) → Keeps (Ends w) (MakesNode w) (rows.lseek w c d h i)
 keeps-lseek w c d h i =
-    then (rows.descriptor w c d) (keeps-descriptor w c d) (λ o _.
+    then (rows.descriptor w c d) (keeps-descriptor w c d) (λ o is.
     unless o.dead _ (λ _.
-    then (rows.offset_of (pos (rows.seek_from w o h) +ℤ i)) (keeps-offset_of w (pos (rows.seek_from w o h) +ℤ i)) (λ at _. found_so (plain-offset w c d o at, refl))))
+    then (rows.offset_of (pos (rows.seek_from w o h) +ℤ i)) (keeps-offset_of w (pos (rows.seek_from w o h) +ℤ i)) (λ at _. found_so (plain-offset w c d o is at, refl))))
 
 -- ---- truncate(2) and ftruncate(2)
 

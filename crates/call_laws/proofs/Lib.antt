@@ -1,4 +1,5 @@
 pub mod WeightLaws
+pub mod FlagLaws
 pub mod LiveCount
 pub mod Parts
 pub mod NameParts
@@ -9,3 +10,14 @@ pub mod LiveLaws
 pub mod LeavingLaws
 pub mod WorkLaws
 pub mod RevokeLaws
+pub mod ShownLaws
+pub mod PrefixLaws
+pub mod RefusalLaws
+pub mod SoundParts
+pub mod SoundLaws
+pub mod KeptLaws
+pub mod EditLaws
+pub mod NamedLaws
+pub mod MadeLaws
+pub mod SoundMade
+pub mod SoundRows

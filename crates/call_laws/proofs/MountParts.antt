@@ -23,7 +23,11 @@ use Rattle.call_model.specs.declared.entry.Inner.TheVariants.{Shadow, CopyUp, De
 use Rattle.call_model.specs.declared.entry.Ref.{Ref}
 use Rattle.call_model.specs.declared.reply.Reply.{Reply}
 use Rattle.call_model.specs.declared.reply.Reply.TheVariants as reply
+use Rattle.call_model.specs.Legal.{is_no_memory}
 use Rattle.call_laws.specs.Fitting.{IsLive, Leaves, MayNeed}
+use Rattle.call_laws.specs.Flags.{SetsNoFlag}
+use Rattle.call_model.specs.NameEdits.{is_fail}
+use Rattle.call_laws.proofs.FlagLaws.{no_flag}
 use Rattle.call_laws.specs.Leaving.{IsLeaver}
 use Rattle.call_laws.specs.Live.{live}
 use Rattle.call_laws.proofs.LiveCount.{first-live, references_stand, open_references_stand}
@@ -33,9 +37,19 @@ use Rattle.call_laws.proofs.NameParts.{Ends, alone-itself, plain}
 
 -- ---- calls that don't leave a mount
 
+-- no more is dead, and the reply is no refusal
+pub record Answered (w new : World) (r : Reply) : Type 0 where
+  pub flags : SetsNoFlag w new
+  pub done : is_fail r ≡ false
+
 -- what a call leaves
 abbrev pub Left : World → ℕ → Call → World × Reply → Type 0
-Left w c call x = Leaves w c call x.0 x.1
+Left w c call x = Leaves w c call x.0 x.1 × Answered w x.0 x.1
+
+-- what is no refusal is no want of memory
+pub done_so : (r : Reply) → is_fail r ≡ false → is_no_memory r ≡ false
+done_so (reply.Fail e) h = cc
+done_so _ h = refl
 
 pub may_make : (w : World) (c : ℕ) (call : Call) (x : Inner) → MakesNode w x → MayNeed w c call x
 may_make w c call (Shadow m u n) h = h
@@ -52,12 +66,12 @@ if_left (Some m) P isnt h = isnt h
 if_left None P isnt h = tt
 
 pub left_plain : (w : World) (c : ℕ) (call : Call) → (IsLeaver (Some call) → ⊥) → (x : World × Reply) → Ends w x → Left w c call x
-left_plain w c call isnt x h = record {
-  answered = h.1;
+left_plain w c call isnt x h = (record {
+  answered = done_so x.1 h.1;
   live = h.0.most;
   others = λ d apart. ap (λ m. get m d) h.0.leaving;
   own = λ leaver. ap (λ m. get m c) h.0.leaving ∙ none_left (get w.leaving c) (if_left (get w.leaving c) (IsLeaver (Some call)) isnt leaver);
-}
+}, record { flags = h.0.flags; done = h.1 })
 
 -- ---- new mounts
 
@@ -106,12 +120,12 @@ left_force : (w : World) (c m : ℕ) (p : List ℕ) → Left w c (call.UmountFor
 left_force w c m p =
     let new : World = rows.left w c m in
     let same : live new ≡ live w = refl in
-    record {
+    (record {
       answered = refl;
       live = omega arith;
       others = λ d apart. others_left w.leaving c d apart;
       own = λ _. get_at-remove nat_cmp_total w.leaving c;
-    }
+    }, record { flags = no_flag w new refl refl; done = refl })
 
 keeps-doom_next : (w : World) (c m : ℕ) (p : List ℕ) → IsSome (get w.leaving c) → (o : Option Ref) → IfSome o (IsLive w)
     → Keeps (Left w c (call.UmountForce p)) (MayNeed w c (call.UmountForce p)) (rows.doom_next w c m o)

@@ -20,12 +20,14 @@ use Rattle.vfs_tree.specs.declared.walk.Child.TheVariants as child
 use Rattle.vfs_tree.specs.declared.walk.Found.{Found}
 use Rattle.vfs_tree.specs.declared.world.World.{World}
 use Rattle.call_model.specs.Checks.{lifted, copied, place_at, target_at, there, dir_at, free_target, node_of, edit_at, has_white, make_at, drop_at, is_full}
-use Rattle.call_model.specs.Legal.{is_no_memory}
 use Rattle.call_model.specs.NameRows as rows
 use Rattle.call_model.specs.declared.entry.Inner.{Inner}
 use Rattle.call_model.specs.declared.reply.Reply.{Reply}
 use Rattle.call_model.specs.declared.target.Target.{Target}
+use Rattle.call_laws.specs.Flags.{SetsNoFlag}
 use Rattle.call_laws.specs.Live.{live}
+use Rattle.call_model.specs.NameEdits.{is_fail}
+use Rattle.call_laws.proofs.FlagLaws.{no_flag, no_flag-cwd}
 use Rattle.call_laws.proofs.LiveCount.{live_opens, live_cwds, live-parts, cwds-insert}
 use Rattle.call_laws.proofs.Parts.{Keeps, Any, MakesNode, found_so, refused, then, unless, check, keeps-shadow, keeps-lifted, keeps-copied, keeps-place_at, keeps-target_at, keeps-there, keeps-dir_at, keeps-free_target}
 
@@ -35,14 +37,15 @@ use Rattle.call_laws.proofs.Parts.{Keeps, Any, MakesNode, found_so, refused, the
 abbrev pub Alone : World → World → Type 0
 Alone w v = (v.opens ≡ w.opens) × (v.cwds ≡ w.cwds) × (v.leaving ≡ w.leaving)
 
--- at most one reference more is live, and the callers that are leaving a mount are as before
+-- at most one reference more is live, the callers that are leaving a mount are as before, and no more is dead
 pub record Plain (w v : World) : Type 0 where
   pub most : live v ≤ live w + 1
   pub leaving : v.leaving ≡ w.leaving
+  pub flags : SetsNoFlag w v
 
 -- a world and a reply that a call may leave that is leaving no mount
 abbrev pub Ends : World → World × Reply → Type 0
-Ends w x = Plain w x.0 × (is_no_memory x.1 ≡ false)
+Ends w x = Plain w x.0 × (is_fail x.1 ≡ false)
 
 pub alone-itself : (w : World) → Alone w w
 alone-itself w = (refl, refl, refl)
@@ -60,7 +63,7 @@ alone-live w v h =
     live-parts v ∙ ap (λ m. live_opens m + live_cwds v.cwds) h.0 ∙ ap (λ m. live_opens w.opens + live_cwds m) h.1 ∙ sym (live-parts w)
 
 pub plain : (w v : World) → Alone w v → Plain w v
-plain w v h = let same = alone-live w v h in record { most = omega arith; leaving = h.2 }
+plain w v h = let same = alone-live w v h in record { most = omega arith; leaving = h.2; flags = no_flag w v h.0 h.1 }
 
 pub keeps-make : (w : World) (d : Seen) (n : List ℕ) (node : Node) → Keeps (Alone w) (MakesNode w) (make_at w d n node)
 keeps-make w d n node = unless (is_full w (base (facts_of w) d).store) _ (λ _. found_so (alone-edit w d (λ t dir. made t dir n node)))
@@ -111,7 +114,7 @@ keeps-symlink w text a =
     then (free_target w a) (keeps-free_target w a) (λ t _.
     then (rows.made_link w text t) (keeps-make w t.dir t.name _) (λ new h. found_so (plain w new h, refl))))
 
-keeps-link_text : (w : World) (o : Option (List ℕ)) → Keeps Any (MakesNode w) (rows.link_text o)
+pub keeps-link_text : (w : World) (o : Option (List ℕ)) → Keeps Any (MakesNode w) (rows.link_text o)
 keeps-link_text w (Some text) = found_so tt
 keeps-link_text w None = refused
 
@@ -178,7 +181,7 @@ keeps-rename w a b =
 
 -- ---- what is known of a file
 
-pub keeps-stat_of : (N : Inner → Type 0) (o : Option Node) → Keeps (λ r. is_no_memory r ≡ false) N (rows.stat_of o)
+pub keeps-stat_of : (N : Inner → Type 0) (o : Option Node) → Keeps (λ r. is_fail r ≡ false) N (rows.stat_of o)
 keeps-stat_of N (Some (Dir parent opaque names)) = found_so refl
 keeps-stat_of N (Some (File bytes)) = found_so refl
 keeps-stat_of N (Some (Link target)) = found_so refl
@@ -197,7 +200,7 @@ plain-cwd w c d =
     let more = cwds-insert w.cwds c (record { place = d; dead = false }) in
     let before = live-parts w in
     let after : live new ≡ live_opens w.opens + live_cwds new.cwds = live-parts new in
-    record { most = omega arith; leaving = refl }
+    record { most = omega arith; leaving = refl; flags = record { opens = λ k e. e; cwds = λ k e. no_flag-cwd w.cwds c (record { place = d; dead = false }) refl k e } }
 
 pub keeps-chdir : (w : World) (c : ℕ) (a : Found) → Keeps (Ends w) (MakesNode w) (rows.chdir w c a)
 keeps-chdir w c a = then (dir_at w a) (keeps-dir_at w a) (λ d _. found_so (plain-cwd w c d, refl))

@@ -18,7 +18,7 @@ use Rattle.call_laws.specs.Leaving.{IsLeaver}
 use Rattle.call_laws.proofs.Parts.{Keeps, MakesNode, weaker, then, keeps-check_way}
 use Rattle.call_laws.proofs.NameParts.{Ends, keeps-mkdir, keeps-rmdir, keeps-unlink, keeps-link, keeps-symlink, keeps-readlink, keeps-undelete, keeps-rename, keeps-stat, keeps-chdir, keeps-statfs}
 use Rattle.call_laws.proofs.DataParts.{keeps-open_file, keeps-close, keeps-read, keeps-pread, keeps-write, keeps-pwrite, keeps-lseek, keeps-truncate, keeps-ftruncate, keeps-fstat, keeps-readdir, keeps-fchdir}
-use Rattle.call_laws.proofs.MountParts.{Left, may_make, left_plain, keeps-mount_mem, keeps-mount_null, keeps-mount_union, keeps-umount, keeps-umount_force, keeps-revoke}
+use Rattle.call_laws.proofs.MountParts.{Answered, Left, may_make, left_plain, keeps-mount_mem, keeps-mount_null, keeps-mount_union, keeps-umount, keeps-umount_force, keeps-revoke}
 
 -- what a call leaves and what it needs are as they may be
 abbrev Kept : World → ℕ → Call → Outcome → Type 0
@@ -67,14 +67,21 @@ kept_ways w c call =
     weaker (check_way (second_way call)) (λ _ _. lawful) (λ x h. h) (keeps-check_way (MayNeed w c call) (second_way call)))
 
 fits : (w : World) (c : ℕ) (call : Call) (o : Outcome) → Kept w c call o → Fits w c call o
-fits w c call (Go x) h = h.holds
+fits w c call (Go x) h = h.holds.0
 fits w c call (Refuse e) h = tt
 fits w c call (Wants x) h = h.holds
 
+row_kept : (w : World) (c : ℕ) (call : Call) → Kept w c call (row w c call)
+row_kept w c call =
+    (then (check_way (first_way call) >> check_way (second_way call)) (kept_ways w c call) (λ _ lawful. kept_decided w c call lawful (first_found w c call) (second_found w c call)))
+
 -- what a call leaves, and what it may need
 pub row_fits : (w : World) (c : ℕ) (call : Call) → Fits w c call (row w c call)
-row_fits w c call = fits w c call (row w c call)
-    (then (check_way (first_way call) >> check_way (second_way call)) (kept_ways w c call) (λ _ lawful. kept_decided w c call lawful (first_found w c call) (second_found w c call)))
+row_fits w c call = fits w c call (row w c call) (row_kept w c call)
+
+-- what a call that is answered leaves dead, and answers
+pub row_answered : (w : World) (c : ℕ) (call : Call) → Keeps (λ x. Answered w x.0 x.1) (λ x. Unit {0}) (row w c call)
+row_answered w c call = weaker (row w c call) (λ x h. h.1) (λ x h. tt) (row_kept w c call)
 
 -- a caller that is leaving a mount goes on with it, whatever its path finds
 pub leaver_row : (w : World) (c : ℕ) (call : Call) (m : ℕ) → get w.leaving c ≡ Some m → IsLeaver (Some call) → row w c call ≡ doom_next w c m (first_in w m)

@@ -1,0 +1,156 @@
+-- Calls that change no name, node or mount keep a world sound.
+use Rattle.std.proofs.Common.{◌≡◌, ℕ, ℤ, Bool, true, false, cond, not, ◌==◌, List, length, refl, sym, ◌∙◌, subst}
+use Rattle.std.specs.Prelude.{Option, Some, None, IfSome, ◌+ℤ◌, pos}
+use Rattle.std.specs.FinMap.{get}
+use Rattle.vfs_tree.specs.Layers.{is_dir, is_file, target_of}
+use Rattle.vfs_tree.specs.Place.{Seen}
+use Rattle.vfs_tree.specs.Sound.{IsSoundPlace, IsSound}
+use Rattle.vfs_tree.specs.Steps.{◌>>◌}
+use Rattle.vfs_tree.specs.Views.{facts_of}
+use Rattle.vfs_tree.specs.Visible.{visible}
+use Rattle.vfs_tree.specs.declared.open.Open.{Open}
+use Rattle.vfs_tree.specs.declared.walk.Found.{Found}
+use Rattle.vfs_tree.specs.declared.walk.Step.TheVariants.{Go, Refuse, Wants}
+use Rattle.vfs_tree.specs.declared.world.World.{World}
+use Rattle.call_model.specs.Apply.{settle, apply}
+use Rattle.call_model.specs.Checks.{Outcome, lifted, place_at, node_of}
+use Rattle.call_model.specs.DataRows as rows
+use Rattle.call_model.specs.Legal.{after, is_no_memory, world_after}
+use Rattle.call_model.specs.MountRows as mounts
+use Rattle.call_model.specs.NameRows as names
+use Rattle.call_model.specs.Refs.{first_open}
+use Rattle.call_model.specs.Rows.{check_way, first_way, second_way, first_found, second_found, decided, row}
+use Rattle.call_model.specs.declared.call.Call.{Call}
+use Rattle.call_model.specs.declared.call.Call.TheVariants as call
+use Rattle.call_model.specs.declared.call.Whence.{Whence}
+use Rattle.call_model.specs.declared.entry.Entry.TheVariants as entry
+use Rattle.call_model.specs.declared.entry.Inner.{Inner}
+use Rattle.call_model.specs.declared.entry.Ref.{Ref}
+use Rattle.call_model.specs.declared.reply.Reply.{Reply}
+use Rattle.call_laws.specs.Quiet.{IsQuiet}
+use Rattle.call_laws.proofs.DataParts.{keeps-descriptor, keeps-check_read, keeps-offset_of}
+use Rattle.call_laws.proofs.NameParts.{keeps-stat_of, keeps-link_text}
+use Rattle.call_laws.proofs.Parts.{Keeps, Any, MakesNode, found_so, refused, needed, weaker, then, unless, keeps-lifted, keeps-place_at, keeps-check_way}
+use Rattle.call_laws.proofs.SoundLaws.{sound-open, sound-closed, sound-cwd}
+
+-- whatever is needed
+abbrev AnyNeed : Inner → Type 0
+AnyNeed x = Unit {0}
+
+-- the world that is left is sound
+abbrev Leaves : World × Reply → Type 0
+Leaves x = IsSound x.0
+
+free : {N : Inner → Type 0} (m : Outcome) → Keeps Leaves N m → Keeps Leaves AnyNeed m
+free m h = weaker m (λ _ s. s) (λ _ _. tt) h
+
+-- the place of an open file that isn't dead
+open_place : (w : World) (k : ℕ × ℕ) (o : Open) → IsSound w → get w.opens k ≡ Some o → o.dead ≡ false → IsSoundPlace (facts_of w) o.place
+open_place w k o h is = subst (λ x. IfSome x (λ o. o.dead ≡ false → IsSoundPlace (facts_of w) o.place)) is (h.opens k)
+
+-- a descriptor's offset is set
+sound-offset : (w : World) (c d at : ℕ) (o : Open) → IsSound w → get w.opens (c, d) ≡ Some o → IsSound (rows.with_offset w c d o at)
+sound-offset w c d at o h is = sound-open w (c, d) (record o { offset = at }) h (open_place w (c, d) o h is)
+
+sound-close : (w : World) (c d : ℕ) → IsSound w → Keeps Leaves (MakesNode w) (rows.close w c d)
+sound-close w c d h = then (rows.descriptor w c d) (keeps-descriptor w c d) (λ o _. found_so (sound-closed w (c, d) h))
+
+sound-read : (w : World) (c d n : ℕ) → IsSound w → Keeps Leaves (MakesNode w) (rows.read w c d n)
+sound-read w c d n h =
+    then (rows.descriptor w c d) (keeps-descriptor w c d) (λ o is.
+    then (rows.check_read w o n) (keeps-check_read w o n) (λ _ _.
+    found_so (sound-offset w c d _ o h is)))
+
+sound-pread : (w : World) (c d n at : ℕ) → IsSound w → Keeps Leaves (MakesNode w) (rows.pread w c d n at)
+sound-pread w c d n at h =
+    then (rows.descriptor w c d) (keeps-descriptor w c d) (λ o _.
+    then (rows.check_read w o n) (keeps-check_read w o n) (λ _ _. found_so h))
+
+sound-lseek : (w : World) (c d : ℕ) (x : Whence) (i : ℤ) → IsSound w → Keeps Leaves (MakesNode w) (rows.lseek w c d x i)
+sound-lseek w c d x i h =
+    then (rows.descriptor w c d) (keeps-descriptor w c d) (λ o is.
+    unless o.dead _ (λ _.
+    then (rows.offset_of (pos (rows.seek_from w o x) +ℤ i)) (keeps-offset_of w (pos (rows.seek_from w o x) +ℤ i)) (λ at _. found_so (sound-offset w c d at o h is))))
+
+sound-fstat : (w : World) (c d : ℕ) → IsSound w → Keeps Leaves (MakesNode w) (rows.fstat w c d)
+sound-fstat w c d h =
+    then (rows.descriptor w c d) (keeps-descriptor w c d) (λ o _.
+    unless o.dead _ (λ _.
+    then (names.stat_of (node_of w o.place)) (keeps-stat_of (MakesNode w) (node_of w o.place)) (λ known _. found_so h)))
+
+sound-readdir : (w : World) (c d : ℕ) → IsSound w → Keeps Leaves (MakesNode w) (rows.readdir w c d)
+sound-readdir w c d h =
+    then (rows.descriptor w c d) (keeps-descriptor w c d) (λ o _.
+    unless o.dead _ (λ _.
+    unless (not (is_dir (facts_of w) o.place)) _ (λ _.
+    then (lifted w (visible w o.place)) (keeps-lifted w (visible w o.place)) (λ _ _. found_so h))))
+
+-- an open directory that isn't dead
+sound-open_dir : (w : World) (c d : ℕ) → IsSound w → Keeps (IsSoundPlace (facts_of w)) (MakesNode w) (rows.open_dir w c d)
+sound-open_dir w c d h =
+    then (rows.descriptor w c d) (keeps-descriptor w c d) (λ o is.
+    unless o.dead _ (λ alive. unless (not (is_dir (facts_of w) o.place)) _ (λ _. found_so (open_place w (c, d) o h is alive))))
+
+sound-fchdir : (w : World) (c d : ℕ) → IsSound w → Keeps Leaves (MakesNode w) (rows.fchdir w c d)
+sound-fchdir w c d h =
+    then (rows.open_dir w c d) (sound-open_dir w c d h) (λ p place. found_so (sound-cwd w c (record { place = p; dead = false }) h place))
+
+sound-stat : (w : World) (a : Found) → IsSound w → Keeps Leaves (MakesNode w) (names.stat w a)
+sound-stat w a h =
+    then (place_at w a) (keeps-place_at w a) (λ p _.
+    then (names.stat_of (node_of w p)) (keeps-stat_of (MakesNode w) (node_of w p)) (λ known _. found_so h))
+
+sound-readlink : (w : World) (a : Found) → IsSound w → Keeps Leaves (MakesNode w) (names.readlink w a)
+sound-readlink w a h =
+    then (place_at w a) (keeps-place_at w a) (λ p _.
+    then (names.link_text (target_of (facts_of w) p)) (keeps-link_text w (target_of (facts_of w) p)) (λ text _. found_so h))
+
+sound-statfs : (w : World) (a : Found) → IsSound w → Keeps Leaves (MakesNode w) (names.statfs w a)
+sound-statfs w a h = then (place_at w a) (keeps-place_at w a) (λ p _. found_so h)
+
+sound-revoke_next : (w : World) (o : Option Ref) → IsSound w → Keeps Leaves AnyNeed (mounts.revoke_next w o)
+sound-revoke_next w (Some at) h = needed tt
+sound-revoke_next w None h = found_so h
+
+sound-revoke : (w : World) (a : Found) → IsSound w → Keeps Leaves AnyNeed (mounts.revoke w a)
+sound-revoke w a h =
+    then (place_at w a) (weaker (place_at w a) (λ _ s. s) (λ _ _. tt) (keeps-place_at w a)) (λ p _.
+    unless (not (is_file (facts_of w) p)) _ (λ _. sound-revoke_next w (first_open w p) h))
+
+sound-decided : (w : World) (c : ℕ) (call : Call) → IsQuiet call → IsSound w → (a b : Found) → Keeps Leaves AnyNeed (decided w c call a b)
+sound-decided w c (call.Close d) quiet h a b = free _ (sound-close w c d h)
+sound-decided w c (call.Read d n) quiet h a b = free _ (sound-read w c d n h)
+sound-decided w c (call.Pread d n o) quiet h a b = free _ (sound-pread w c d n o h)
+sound-decided w c (call.Lseek d x i) quiet h a b = free _ (sound-lseek w c d x i h)
+sound-decided w c (call.Stat p) quiet h a b = free _ (sound-stat w a h)
+sound-decided w c (call.Lstat p) quiet h a b = free _ (sound-stat w a h)
+sound-decided w c (call.Fstat d) quiet h a b = free _ (sound-fstat w c d h)
+sound-decided w c (call.Readdir d) quiet h a b = free _ (sound-readdir w c d h)
+sound-decided w c (call.Readlink p) quiet h a b = free _ (sound-readlink w a h)
+sound-decided w c (call.Fchdir d) quiet h a b = free _ (sound-fchdir w c d h)
+sound-decided w c (call.Statfs p) quiet h a b = free _ (sound-statfs w a h)
+sound-decided w c (call.Revoke p) quiet h a b = sound-revoke w a h
+sound-decided w c _ quiet h a b = absurd quiet
+
+ways : (call : Call) → Keeps Any AnyNeed (check_way (first_way call) >> check_way (second_way call))
+ways call =
+    then (check_way (first_way call)) (keeps-check_way AnyNeed (first_way call)) (λ _ _.
+    weaker (check_way (second_way call)) (λ _ _. tt) (λ _ _. tt) (keeps-check_way AnyNeed (second_way call)))
+
+sound-row : (w : World) (c : ℕ) (call : Call) → IsQuiet call → IsSound w → Keeps Leaves AnyNeed (row w c call)
+sound-row w c call quiet h =
+    then (check_way (first_way call) >> check_way (second_way call)) (ways call) (λ _ _. sound-decided w c call quiet h (first_found w c call) (second_found w c call))
+
+settled : (w : World) (o : Outcome) → IsSound w → Keeps Leaves AnyNeed o → IsSound (world_after w (settle w o))
+settled w (Go x) h k = k.holds
+settled w (Refuse e) h k = h
+settled w (Wants x) h k = h
+
+either : (b : Bool) (w new : World) → IsSound w → IsSound new → IsSound (cond b w new)
+either true w new p q = p
+either false w new p q = q
+
+-- the entry of such a call leaves a sound world
+pub sound-quiet : (w : World) (c : ℕ) (call : Call) (r : Reply) → IsQuiet call → IsSound w → IsSound (after w (entry.Call c call r))
+sound-quiet w c call r quiet h =
+    either (is_no_memory r) w (world_after w (apply w c call)) h (settled w (row w c call) h (sound-row w c call quiet h))
