@@ -21,3 +21,4 @@ pub mod NamedLaws
 pub mod MadeLaws
 pub mod SoundMade
 pub mod SoundRows
+pub mod NeedLaws

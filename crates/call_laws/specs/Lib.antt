@@ -5,3 +5,4 @@ pub mod Revoking
 pub mod Flags
 pub mod Prefixes
 pub mod Quiet
+pub mod Needing
