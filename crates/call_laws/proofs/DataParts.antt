@@ -22,6 +22,7 @@ use Rattle.call_model.specs.declared.entry.Inner.{Inner}
 use Rattle.call_laws.specs.Flags.{is_dead_open}
 use Rattle.call_laws.specs.Live.{live}
 use Rattle.call_laws.proofs.FlagLaws.{no_flag, no_flag-through, no_flag-open, no_flag-close}
+use Rattle.call_laws.proofs.NeedLaws.{FreeFound, free-visible}
 use Rattle.call_laws.proofs.LiveCount.{live_opens, live_cwds, live-parts, opens-insert, opens-remove}
 use Rattle.call_laws.proofs.Parts.{Keeps, Any, MakesNode, found_so, refused, then, unless, check, keeps-shadow, keeps-lifted, keeps-copied, keeps-place_at}
 use Rattle.call_laws.proofs.NameParts.{Alone, Plain, Ends, alone-itself, alone-edit, plain, plain-cwd, keeps-make, keeps-stat_of}
@@ -89,20 +90,20 @@ keeps-open_made w c fd f d n =
     then (make_at w d n (File [])) (keeps-make w d n (File [])) (λ new h.
     found_so (plain-open w new h c fd (record { place = rows.place_in d (next_of (get w.stores (base (facts_of w) d).store)); offset = 0; mode = rows.mode_of f; dead = false }) (λ e. cc), refl))
 
-keeps-open_found : (w : World) (c fd : ℕ) (f : Flags) (a : Found) → Keeps (Ends w) (MakesNode w) (rows.open_found w c fd f a)
-keeps-open_found w c fd f (found.At p) = keeps-open_there w c fd f p
-keeps-open_found w c fd f (found.In d n None) = keeps-open_made w c fd f d n
-keeps-open_found w c fd f (found.In d n (Some p)) = refused
-keeps-open_found w c fd f (found.Dot d) = refused
-keeps-open_found w c fd f (found.Mount m) = refused
-keeps-open_found w c fd f (found.Refused e) = refused
-keeps-open_found w c fd f (found.Need x) = keeps-shadow w x
+keeps-open_found : (w : World) (c fd : ℕ) (f : Flags) (a : Found) → FreeFound (facts_of w) a → Keeps (Ends w) (MakesNode w) (rows.open_found w c fd f a)
+keeps-open_found w c fd f (found.At p) fa = keeps-open_there w c fd f p
+keeps-open_found w c fd f (found.In d n None) fa = keeps-open_made w c fd f d n
+keeps-open_found w c fd f (found.In d n (Some p)) fa = refused
+keeps-open_found w c fd f (found.Dot d) fa = refused
+keeps-open_found w c fd f (found.Mount m) fa = refused
+keeps-open_found w c fd f (found.Refused e) fa = refused
+keeps-open_found w c fd f (found.Need x) fa = keeps-shadow w x fa
 
-pub keeps-open_file : (w : World) (c : ℕ) (f : Flags) (a : Found) → Keeps (Ends w) (MakesNode w) (rows.open_file w c f a)
-keeps-open_file w c f a =
+pub keeps-open_file : (w : World) (c : ℕ) (f : Flags) (a : Found) → FreeFound (facts_of w) a → Keeps (Ends w) (MakesNode w) (rows.open_file w c f a)
+keeps-open_file w c f a fa =
     unless (not (rows.are_flags f)) _ (λ _.
     then (rows.free_descriptor w c) (keeps-free_from (MakesNode w) 32 w c 0) (λ fd _.
-    unless (not (nat_lt (len w.opens) w.limits.files)) _ (λ _. keeps-open_found w c fd f a)))
+    unless (not (nat_lt (len w.opens) w.limits.files)) _ (λ _. keeps-open_found w c fd f a fa)))
 
 pub keeps-close : (w : World) (c d : ℕ) → Keeps (Ends w) (MakesNode w) (rows.close w c d)
 keeps-close w c d = then (rows.descriptor w c d) (keeps-descriptor w c d) (λ o is. found_so (plain-close w c d o is, refl))
@@ -174,9 +175,9 @@ keeps-lseek w c d h i =
 keeps-check_length : (w : World) (p : Seen) (n : ℕ) → Keeps Any (MakesNode w) (rows.check_length w p n)
 keeps-check_length w p n = unless (is_dir (facts_of w) p) _ (λ _. unless (nat_lt rows.most_bytes n) _ (λ _. keeps-copied w p))
 
-pub keeps-truncate : (w : World) (a : Found) (n : ℕ) → Keeps (Ends w) (MakesNode w) (rows.truncate w a n)
-keeps-truncate w a n =
-    then (place_at w a) (keeps-place_at w a) (λ p _.
+pub keeps-truncate : (w : World) (a : Found) (n : ℕ) → FreeFound (facts_of w) a → Keeps (Ends w) (MakesNode w) (rows.truncate w a n)
+keeps-truncate w a n fa =
+    then (place_at w a) (keeps-place_at w a fa) (λ p _.
     then (rows.check_length w p n) (keeps-check_length w p n) (λ _ _. found_so (plain-resize w p n, refl)))
 
 keeps-open_length : (w : World) (c d n : ℕ) → Keeps Any (MakesNode w) (rows.open_length w c d n)
@@ -200,7 +201,7 @@ keeps-readdir w c d =
     then (rows.descriptor w c d) (keeps-descriptor w c d) (λ o _.
     unless o.dead _ (λ _.
     unless (not (is_dir (facts_of w) o.place)) _ (λ _.
-    then (lifted w (visible w o.place)) (keeps-lifted w (visible w o.place)) (λ names _. found_so (plain w w (alone-itself w), refl)))))
+    then (lifted w (visible w o.place)) (keeps-lifted w (visible w o.place) (free-visible w o.place)) (λ names _. found_so (plain w w (alone-itself w), refl)))))
 
 keeps-open_dir : (w : World) (c d : ℕ) → Keeps Any (MakesNode w) (rows.open_dir w c d)
 keeps-open_dir w c d =

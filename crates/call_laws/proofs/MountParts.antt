@@ -27,7 +27,9 @@ use Rattle.call_model.specs.Legal.{is_no_memory}
 use Rattle.call_laws.specs.Fitting.{IsLive, Leaves, MayNeed}
 use Rattle.call_laws.specs.Flags.{SetsNoFlag}
 use Rattle.call_model.specs.NameEdits.{is_fail}
+use Rattle.call_laws.specs.Needing.{IsFree}
 use Rattle.call_laws.proofs.FlagLaws.{no_flag}
+use Rattle.call_laws.proofs.NeedLaws.{FreeFound}
 use Rattle.call_laws.specs.Leaving.{IsLeaver}
 use Rattle.call_laws.specs.Live.{live}
 use Rattle.call_laws.proofs.LiveCount.{first-live, references_stand, open_references_stand}
@@ -51,9 +53,20 @@ pub done_so : (r : Reply) → is_fail r ≡ false → is_no_memory r ≡ false
 done_so (reply.Fail e) h = cc
 done_so _ h = refl
 
-pub may_make : (w : World) (c : ℕ) (call : Call) (x : Inner) → MakesNode w x → MayNeed w c call x
-may_make w c call (Shadow m u n) h = h
-may_make w c call (CopyUp m u n) h = h
+-- a shadow directory is made where the upper layer has nothing
+abbrev pub FreeInner : World → Inner → Type 0
+FreeInner w (Shadow m u n) = IsFree (facts_of w) m u n
+FreeInner w (CopyUp m u n) = Unit {0}
+FreeInner w (Detach m) = Unit {0}
+FreeInner w (Doom at) = Unit {0}
+
+-- what a call needs
+abbrev pub Needed : World → ℕ → Call → Inner → Type 0
+Needed w c call x = MayNeed w c call x × FreeInner w x
+
+pub may_make : (w : World) (c : ℕ) (call : Call) (x : Inner) → MakesNode w x → Needed w c call x
+may_make w c call (Shadow m u n) h = (h.0, h.1)
+may_make w c call (CopyUp m u n) h = (h, tt)
 may_make w c call (Detach m) h = absurd h
 may_make w c call (Doom at) h = absurd h
 
@@ -78,15 +91,15 @@ left_plain w c call isnt x h = (record {
 keeps-check_mounts : (w : World) → Keeps Any (MakesNode w) (rows.check_mounts w)
 keeps-check_mounts w = unless (not (nat_lt (len w.mounts) w.limits.mounts)) _ (λ _. check (w.next_mount == 4294967295) _)
 
-pub keeps-mount_mem : (w : World) (a : Found) → Keeps (Ends w) (MakesNode w) (rows.mount_mem w a)
-keeps-mount_mem w a =
-    then (dir_at w a) (keeps-dir_at w a) (λ on _.
+pub keeps-mount_mem : (w : World) (a : Found) → FreeFound (facts_of w) a → Keeps (Ends w) (MakesNode w) (rows.mount_mem w a)
+keeps-mount_mem w a fa =
+    then (dir_at w a) (keeps-dir_at w a fa) (λ on _.
     then (rows.check_mounts w) (keeps-check_mounts w) (λ _ _. found_so (plain w _ (refl, refl, refl), refl)))
 
-pub keeps-mount_null : (w : World) (a b : Found) → Keeps (Ends w) (MakesNode w) (rows.mount_null w a b)
-keeps-mount_null w a b =
-    then (dir_at w a) (keeps-dir_at w a) (λ layer _.
-    then (dir_at w b) (keeps-dir_at w b) (λ on _.
+pub keeps-mount_null : (w : World) (a b : Found) → FreeFound (facts_of w) a → FreeFound (facts_of w) b → Keeps (Ends w) (MakesNode w) (rows.mount_null w a b)
+keeps-mount_null w a b fa fb =
+    then (dir_at w a) (keeps-dir_at w a fa) (λ layer _.
+    then (dir_at w b) (keeps-dir_at w b fb) (λ on _.
     unless (same_place layer on) _ (λ _.
     unless (depth (facts_of w) layer == rows.most_depth) _ (λ _.
     then (rows.check_mounts w) (keeps-check_mounts w) (λ _ _. found_so (plain w _ (refl, refl, refl), refl))))))
@@ -97,10 +110,10 @@ keeps-upper_of w (Null m p) = refused
 keeps-upper_of w (UnionUp m i) = refused
 keeps-upper_of w (UnionLow m u n p) = refused
 
-pub keeps-mount_union : (w : World) (a b : Found) → Keeps (Ends w) (MakesNode w) (rows.mount_union w a b)
-keeps-mount_union w a b =
-    then (dir_at w a) (keeps-dir_at w a) (λ up _.
-    then (dir_at w b) (keeps-dir_at w b) (λ on _.
+pub keeps-mount_union : (w : World) (a b : Found) → FreeFound (facts_of w) a → FreeFound (facts_of w) b → Keeps (Ends w) (MakesNode w) (rows.mount_union w a b)
+keeps-mount_union w a b fa fb =
+    then (dir_at w a) (keeps-dir_at w a fa) (λ up _.
+    then (dir_at w b) (keeps-dir_at w b fb) (λ on _.
     then (rows.upper_of up) (keeps-upper_of w up) (λ upper _.
     unless (list_any (λ s. s == upper.store) (stores (facts_of w) on)) _ (λ _.
     unless (depth (facts_of w) on == rows.most_depth) _ (λ _.
@@ -108,9 +121,9 @@ keeps-mount_union w a b =
 
 -- ---- unmount(2)
 
-pub keeps-umount : (w : World) (a : Found) → Keeps (Ends w) (MakesNode w) (rows.umount w a)
-keeps-umount w a =
-    then (mount_at w a) (keeps-mount_at w a) (λ m _.
+pub keeps-umount : (w : World) (a : Found) → FreeFound (facts_of w) a → Keeps (Ends w) (MakesNode w) (rows.umount w a)
+keeps-umount w a fa =
+    then (mount_at w a) (keeps-mount_at w a fa) (λ m _.
     unless (m == 0) _ (λ _. unless (has_references w m) _ (λ _. found_so (plain w (rows.without_mount w m) (refl, refl, refl), refl))))
 
 others_left : (m : FinMap nat_cmp ℕ) (c d : ℕ) → (d == c) ≡ false → get (remove m c) d ≡ get m d
@@ -128,35 +141,35 @@ left_force w c m p =
     }, record { flags = no_flag w new refl refl; done = refl })
 
 keeps-doom_next : (w : World) (c m : ℕ) (p : List ℕ) → IsSome (get w.leaving c) → (o : Option Ref) → IfSome o (IsLive w)
-    → Keeps (Left w c (call.UmountForce p)) (MayNeed w c (call.UmountForce p)) (rows.doom_next w c m o)
-keeps-doom_next w c m p leaving (Some at) h = needed (h, inl leaving)
+    → Keeps (Left w c (call.UmountForce p)) (Needed w c (call.UmountForce p)) (rows.doom_next w c m o)
+keeps-doom_next w c m p leaving (Some at) h = needed ((h, inl leaving), tt)
 keeps-doom_next w c m p leaving None h = found_so (left_force w c m p)
 
-keeps-detach_first : (w : World) (c : ℕ) (p : List ℕ) (a : Found) → get w.leaving c ≡ None → check_way (way leaf.Mount p) ≡ Go tt
-    → Keeps (Left w c (call.UmountForce p)) (MayNeed w c (call.UmountForce p)) (rows.detach_first w a)
-keeps-detach_first w c p a none lawful =
-    then (mount_at w a) (weaker (mount_at w a) (λ _ h. h) (may_make w c (call.UmountForce p)) (keeps-mount_at w a)) (λ m _.
-    unless (m == 0) _ (λ _. unless (is_covered w m) _ (λ _. needed (none, lawful))))
+keeps-detach_first : (w : World) (c : ℕ) (p : List ℕ) (a : Found) → FreeFound (facts_of w) a → get w.leaving c ≡ None → check_way (way leaf.Mount p) ≡ Go tt
+    → Keeps (Left w c (call.UmountForce p)) (Needed w c (call.UmountForce p)) (rows.detach_first w a)
+keeps-detach_first w c p a fa none lawful =
+    then (mount_at w a) (weaker (mount_at w a) (λ _ h. h) (may_make w c (call.UmountForce p)) (keeps-mount_at w a fa)) (λ m _.
+    unless (m == 0) _ (λ _. unless (is_covered w m) _ (λ _. needed ((none, lawful), tt))))
 
-keeps-umount_by : (w : World) (c : ℕ) (p : List ℕ) (a : Found) → check_way (way leaf.Mount p) ≡ Go tt → (o : Option ℕ) → get w.leaving c ≡ o
-    → Keeps (Left w c (call.UmountForce p)) (MayNeed w c (call.UmountForce p)) (rows.umount_by w c a o)
-keeps-umount_by w c p a lawful (Some m) is =
+keeps-umount_by : (w : World) (c : ℕ) (p : List ℕ) (a : Found) → FreeFound (facts_of w) a → check_way (way leaf.Mount p) ≡ Go tt → (o : Option ℕ) → get w.leaving c ≡ o
+    → Keeps (Left w c (call.UmountForce p)) (Needed w c (call.UmountForce p)) (rows.umount_by w c a o)
+keeps-umount_by w c p a fa lawful (Some m) is =
     keeps-doom_next w c m p (ap is_some is) (first_in w m) (first-live w (λ r. is_of w.mounts m (mount_of r.place)) (references w) (references_stand w))
-keeps-umount_by w c p a lawful None is = keeps-detach_first w c p a is lawful
+keeps-umount_by w c p a fa lawful None is = keeps-detach_first w c p a fa is lawful
 
-pub keeps-umount_force : (w : World) (c : ℕ) (p : List ℕ) (a : Found) → check_way (way leaf.Mount p) ≡ Go tt
-    → Keeps (Left w c (call.UmountForce p)) (MayNeed w c (call.UmountForce p)) (rows.umount_force w c a)
-keeps-umount_force w c p a lawful = keeps-umount_by w c p a lawful (get w.leaving c) refl
+pub keeps-umount_force : (w : World) (c : ℕ) (p : List ℕ) (a : Found) → FreeFound (facts_of w) a → check_way (way leaf.Mount p) ≡ Go tt
+    → Keeps (Left w c (call.UmountForce p)) (Needed w c (call.UmountForce p)) (rows.umount_force w c a)
+keeps-umount_force w c p a fa lawful = keeps-umount_by w c p a fa lawful (get w.leaving c) refl
 
 -- ---- revoke(2)
 
 keeps-revoke_next : (w : World) (c : ℕ) (p : List ℕ) (o : Option Ref) → IfSome o (IsLive w)
-    → Keeps (Left w c (call.Revoke p)) (MayNeed w c (call.Revoke p)) (rows.revoke_next w o)
-keeps-revoke_next w c p (Some at) h = needed (h, inr tt)
+    → Keeps (Left w c (call.Revoke p)) (Needed w c (call.Revoke p)) (rows.revoke_next w o)
+keeps-revoke_next w c p (Some at) h = needed ((h, inr tt), tt)
 keeps-revoke_next w c p None h = found_so (left_plain w c (call.Revoke p) (λ x. x) (w, reply.Done) (plain w w (alone-itself w), refl))
 
-pub keeps-revoke : (w : World) (c : ℕ) (p : List ℕ) (a : Found) → Keeps (Left w c (call.Revoke p)) (MayNeed w c (call.Revoke p)) (rows.revoke w a)
-keeps-revoke w c p a =
-    then (place_at w a) (weaker (place_at w a) (λ _ h. h) (may_make w c (call.Revoke p)) (keeps-place_at w a)) (λ q _.
+pub keeps-revoke : (w : World) (c : ℕ) (p : List ℕ) (a : Found) → FreeFound (facts_of w) a → Keeps (Left w c (call.Revoke p)) (Needed w c (call.Revoke p)) (rows.revoke w a)
+keeps-revoke w c p a fa =
+    then (place_at w a) (weaker (place_at w a) (λ _ h. h) (may_make w c (call.Revoke p)) (keeps-place_at w a fa)) (λ q _.
     unless (not (is_file (facts_of w) q)) _ (λ _.
     keeps-revoke_next w c p (first_open w q) (first-live w (λ r. same_node (base (facts_of w) r.place) (base (facts_of w) q)) (open_references w) (open_references_stand w))))

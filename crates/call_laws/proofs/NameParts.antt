@@ -28,6 +28,7 @@ use Rattle.call_laws.specs.Flags.{SetsNoFlag}
 use Rattle.call_laws.specs.Live.{live}
 use Rattle.call_model.specs.NameEdits.{is_fail}
 use Rattle.call_laws.proofs.FlagLaws.{no_flag, no_flag-cwd}
+use Rattle.call_laws.proofs.NeedLaws.{FreeChild, FreeFound, free-low, free-has_visible}
 use Rattle.call_laws.proofs.LiveCount.{live_opens, live_cwds, live-parts, cwds-insert}
 use Rattle.call_laws.proofs.Parts.{Keeps, Any, MakesNode, found_so, refused, then, unless, check, keeps-shadow, keeps-lifted, keeps-copied, keeps-place_at, keeps-target_at, keeps-there, keeps-dir_at, keeps-free_target}
 
@@ -73,34 +74,34 @@ plain-drop w d n = plain w (drop_at w d n) (alone-edit w d (λ t dir. removed (i
 
 -- ---- directories
 
-pub keeps-mkdir : (w : World) (a : Found) → Keeps (Ends w) (MakesNode w) (rows.mkdir w a)
-keeps-mkdir w a = then (free_target w a) (keeps-free_target w a) (λ t _. then (rows.made_dir w t) (keeps-make w t.dir t.name _) (λ new h. found_so (plain w new h, refl)))
+pub keeps-mkdir : (w : World) (a : Found) → FreeFound (facts_of w) a → Keeps (Ends w) (MakesNode w) (rows.mkdir w a)
+keeps-mkdir w a fa = then (free_target w a) (keeps-free_target w a fa) (λ t _. then (rows.made_dir w t) (keeps-make w t.dir t.name _) (λ new h. found_so (plain w new h, refl)))
 
 keeps-check_empty : (w : World) (d : Seen) → Keeps Any (MakesNode w) (rows.check_empty w d)
-keeps-check_empty w d = then (lifted w (has_visible w d)) (keeps-lifted w (has_visible w d)) (λ shows _. check shows _)
+keeps-check_empty w d = then (lifted w (has_visible w d)) (keeps-lifted w (has_visible w d) (free-has_visible w d)) (λ shows _. check shows _)
 
 keeps-check_removed : (w : World) (o : Option Seen) → Keeps Any (MakesNode w) (rows.check_removed w o)
 keeps-check_removed w o =
     then (there o) (keeps-there o) (λ d _. unless (not (is_dir (facts_of w) d)) _ (λ _. unless (is_busy w d) _ (λ _. keeps-check_empty w d)))
 
-pub keeps-rmdir : (w : World) (a : Found) → Keeps (Ends w) (MakesNode w) (rows.rmdir w a)
-keeps-rmdir w a =
-    then (target_at w errno.EINVAL a) (keeps-target_at w errno.EINVAL a) (λ t _.
+pub keeps-rmdir : (w : World) (a : Found) → FreeFound (facts_of w) a → Keeps (Ends w) (MakesNode w) (rows.rmdir w a)
+keeps-rmdir w a fa =
+    then (target_at w errno.EINVAL a) (keeps-target_at w errno.EINVAL a fa) (λ t _.
     then (rows.check_removed w t.child) (keeps-check_removed w t.child) (λ _ _. found_so (plain-drop w t.dir t.name, refl)))
 
 -- ---- names of files and links
 
-pub keeps-unlink : (w : World) (a : Found) → Keeps (Ends w) (MakesNode w) (rows.unlink w a)
-keeps-unlink w a =
-    then (target_at w errno.EPERM a) (keeps-target_at w errno.EPERM a) (λ t _.
+pub keeps-unlink : (w : World) (a : Found) → FreeFound (facts_of w) a → Keeps (Ends w) (MakesNode w) (rows.unlink w a)
+keeps-unlink w a fa =
+    then (target_at w errno.EPERM a) (keeps-target_at w errno.EPERM a fa) (λ t _.
     then (there t.child) (keeps-there t.child) (λ p _.
     unless (is_dir (facts_of w) p) _ (λ _. found_so (plain-drop w t.dir t.name, refl))))
 
-pub keeps-link : (w : World) (a b : Found) → Keeps (Ends w) (MakesNode w) (rows.link w a b)
-keeps-link w a b =
-    then (place_at w a) (keeps-place_at w a) (λ p _.
+pub keeps-link : (w : World) (a b : Found) → FreeFound (facts_of w) a → FreeFound (facts_of w) b → Keeps (Ends w) (MakesNode w) (rows.link w a b)
+keeps-link w a b fa fb =
+    then (place_at w a) (keeps-place_at w a fa) (λ p _.
     unless (is_dir (facts_of w) p) _ (λ _.
-    then (free_target w b) (keeps-free_target w b) (λ t _.
+    then (free_target w b) (keeps-free_target w b fb) (λ t _.
     unless (not (mount_of p == mount_of t.dir)) _ (λ _.
     then (copied w p) (keeps-copied w p) (λ _ _.
     found_so (plain w _ (alone-edit w t.dir (λ s dir. set_entry s dir t.name (Ino (base (facts_of w) p).ino))), refl))))))
@@ -108,35 +109,35 @@ keeps-link w a b =
 keeps-check_text : (w : World) (text : List ℕ) → Keeps Any (MakesNode w) (rows.check_text text)
 keeps-check_text w text = unless (is_empty text) _ (λ _. unless (has_zero text) _ (λ _. check (nat_lt 1023 (length text)) _))
 
-pub keeps-symlink : (w : World) (text : List ℕ) (a : Found) → Keeps (Ends w) (MakesNode w) (rows.symlink w text a)
-keeps-symlink w text a =
+pub keeps-symlink : (w : World) (text : List ℕ) (a : Found) → FreeFound (facts_of w) a → Keeps (Ends w) (MakesNode w) (rows.symlink w text a)
+keeps-symlink w text a fa =
     then (rows.check_text text) (keeps-check_text w text) (λ _ _.
-    then (free_target w a) (keeps-free_target w a) (λ t _.
+    then (free_target w a) (keeps-free_target w a fa) (λ t _.
     then (rows.made_link w text t) (keeps-make w t.dir t.name _) (λ new h. found_so (plain w new h, refl))))
 
 pub keeps-link_text : (w : World) (o : Option (List ℕ)) → Keeps Any (MakesNode w) (rows.link_text o)
 keeps-link_text w (Some text) = found_so tt
 keeps-link_text w None = refused
 
-pub keeps-readlink : (w : World) (a : Found) → Keeps (Ends w) (MakesNode w) (rows.readlink w a)
-keeps-readlink w a =
-    then (place_at w a) (keeps-place_at w a) (λ p _.
+pub keeps-readlink : (w : World) (a : Found) → FreeFound (facts_of w) a → Keeps (Ends w) (MakesNode w) (rows.readlink w a)
+keeps-readlink w a fa =
+    then (place_at w a) (keeps-place_at w a fa) (λ p _.
     then (rows.link_text (target_of (facts_of w) p)) (keeps-link_text w (target_of (facts_of w) p)) (λ text _. found_so (plain w w (alone-itself w), refl)))
 
-pub keeps-undelete : (w : World) (a : Found) → Keeps (Ends w) (MakesNode w) (rows.undelete w a)
-keeps-undelete w a =
-    then (target_at w errno.EEXIST a) (keeps-target_at w errno.EEXIST a) (λ t _.
+pub keeps-undelete : (w : World) (a : Found) → FreeFound (facts_of w) a → Keeps (Ends w) (MakesNode w) (rows.undelete w a)
+keeps-undelete w a fa =
+    then (target_at w errno.EEXIST a) (keeps-target_at w errno.EEXIST a fa) (λ t _.
     unless (not (has_white w t.dir t.name)) _ (λ _. found_so (plain w _ (alone-edit w t.dir (λ s dir. clear_entry s dir t.name)), refl)))
 
 -- ---- rename(2)
 
-keeps-is_lower : (w : World) (o : Child) → Keeps Any (MakesNode w) (rows.is_lower w o)
-keeps-is_lower w (child.At d) = found_so tt
-keeps-is_lower w child.Absent = found_so tt
-keeps-is_lower w (child.Need x) = keeps-shadow w x
+keeps-is_lower : (w : World) (o : Child) → FreeChild (facts_of w) o → Keeps Any (MakesNode w) (rows.is_lower w o)
+keeps-is_lower w (child.At d) free = found_so tt
+keeps-is_lower w child.Absent free = found_so tt
+keeps-is_lower w (child.Need x) free = keeps-shadow w x free
 
 keeps-has_lower_place : (w : World) (p : Seen) → Keeps Any (MakesNode w) (rows.has_lower_place w p)
-keeps-has_lower_place w (UnionUp m i) = keeps-is_lower w (low (facts_of w) m i)
+keeps-has_lower_place w (UnionUp m i) = keeps-is_lower w (low (facts_of w) m i) (free-low (facts_of w) m i)
 keeps-has_lower_place w (Mem m i) = found_so tt
 keeps-has_lower_place w (Null m p) = found_so tt
 keeps-has_lower_place w (UnionLow m u n p) = found_so tt
@@ -172,11 +173,11 @@ keeps-rename_case : (b : Bool) (w : World) (source d : Seen) (n : List ℕ) (new
 keeps-rename_case true w source d n new = found_so (plain w w (alone-itself w), refl)
 keeps-rename_case false w source d n new = keeps-rename_apart w source d n new
 
-pub keeps-rename : (w : World) (a b : Found) → Keeps (Ends w) (MakesNode w) (rows.rename w a b)
-keeps-rename w a b =
-    then (target_at w errno.EINVAL a) (keeps-target_at w errno.EINVAL a) (λ old _.
+pub keeps-rename : (w : World) (a b : Found) → FreeFound (facts_of w) a → FreeFound (facts_of w) b → Keeps (Ends w) (MakesNode w) (rows.rename w a b)
+keeps-rename w a b fa fb =
+    then (target_at w errno.EINVAL a) (keeps-target_at w errno.EINVAL a fa) (λ old _.
     then (there old.child) (keeps-there old.child) (λ source _.
-    then (target_at w errno.EINVAL b) (keeps-target_at w errno.EINVAL b) (λ new _.
+    then (target_at w errno.EINVAL b) (keeps-target_at w errno.EINVAL b fb) (λ new _.
     unless (not (mount_of old.dir == mount_of new.dir)) _ (λ _. keeps-rename_case (rows.is_there source new.child) w source old.dir old.name new))))
 
 -- ---- what is known of a file
@@ -187,9 +188,9 @@ keeps-stat_of N (Some (File bytes)) = found_so refl
 keeps-stat_of N (Some (Link target)) = found_so refl
 keeps-stat_of N None = refused
 
-pub keeps-stat : (w : World) (a : Found) → Keeps (Ends w) (MakesNode w) (rows.stat w a)
-keeps-stat w a =
-    then (place_at w a) (keeps-place_at w a) (λ p _.
+pub keeps-stat : (w : World) (a : Found) → FreeFound (facts_of w) a → Keeps (Ends w) (MakesNode w) (rows.stat w a)
+keeps-stat w a fa =
+    then (place_at w a) (keeps-place_at w a fa) (λ p _.
     then (rows.stat_of (node_of w p)) (keeps-stat_of (MakesNode w) (node_of w p)) (λ known e. found_so (plain w w (alone-itself w), e)))
 
 -- ---- current directories
@@ -202,10 +203,10 @@ plain-cwd w c d =
     let after : live new ≡ live_opens w.opens + live_cwds new.cwds = live-parts new in
     record { most = omega arith; leaving = refl; flags = record { opens = λ k e. e; cwds = λ k e. no_flag-cwd w.cwds c (record { place = d; dead = false }) refl k e } }
 
-pub keeps-chdir : (w : World) (c : ℕ) (a : Found) → Keeps (Ends w) (MakesNode w) (rows.chdir w c a)
-keeps-chdir w c a = then (dir_at w a) (keeps-dir_at w a) (λ d _. found_so (plain-cwd w c d, refl))
+pub keeps-chdir : (w : World) (c : ℕ) (a : Found) → FreeFound (facts_of w) a → Keeps (Ends w) (MakesNode w) (rows.chdir w c a)
+keeps-chdir w c a fa = then (dir_at w a) (keeps-dir_at w a fa) (λ d _. found_so (plain-cwd w c d, refl))
 
 -- ---- file systems
 
-pub keeps-statfs : (w : World) (a : Found) → Keeps (Ends w) (MakesNode w) (rows.statfs w a)
-keeps-statfs w a = then (place_at w a) (keeps-place_at w a) (λ p _. found_so (plain w w (alone-itself w), refl))
+pub keeps-statfs : (w : World) (a : Found) → FreeFound (facts_of w) a → Keeps (Ends w) (MakesNode w) (rows.statfs w a)
+keeps-statfs w a fa = then (place_at w a) (keeps-place_at w a fa) (λ p _. found_so (plain w w (alone-itself w), refl))

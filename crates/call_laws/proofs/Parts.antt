@@ -18,6 +18,8 @@ use Rattle.call_model.specs.Checks.{Doing, is_full, upper_store, need_shadow, li
 use Rattle.call_model.specs.Rows.{Way, check_way}
 use Rattle.call_model.specs.declared.entry.Inner.{Inner}
 use Rattle.call_model.specs.declared.entry.Inner.TheVariants.{Shadow, CopyUp, Detach, Doom}
+use Rattle.call_laws.specs.Needing.{IsFree}
+use Rattle.call_laws.proofs.NeedLaws.{FreeNeed, Free, FreeFound}
 
 -- what a part finds has the one property, and what it needs the other
 abbrev pub Holds : {A : Type 0} → (A → Type 0) → (Inner → Type 0) → Doing A → Type 0
@@ -64,20 +66,20 @@ pub check : {N : Inner → Type 0} (b : Bool) (e : Errno) → Keeps Any N (refus
 check true e = refused
 check false e = found_so tt
 
--- a node that is made where a number is left for it
+-- a node that is made where a number is left for it; a shadow directory, where the upper layer has nothing
 abbrev pub MakesNode : World → Inner → Type 0
-MakesNode w (Shadow m u n) = is_full w (upper_store w m) ≡ false
+MakesNode w (Shadow m u n) = (is_full w (upper_store w m) ≡ false) × IsFree (facts_of w) m u n
 MakesNode w (CopyUp m u n) = is_full w (upper_store w m) ≡ false
 MakesNode w (Detach m) = ⊥
 MakesNode w (Doom at) = ⊥
 
-pub keeps-shadow : {A : Type 0} {P : A → Type 0} (w : World) (x : Need) → Keeps P (MakesNode w) (need_shadow w x)
-keeps-shadow w x = unless (is_full w (upper_store w x.mount)) _ (λ e. needed e)
+pub keeps-shadow : {A : Type 0} {P : A → Type 0} (w : World) (x : Need) → FreeNeed (facts_of w) x → Keeps P (MakesNode w) (need_shadow w x)
+keeps-shadow w x free = unless (is_full w (upper_store w x.mount)) _ (λ e. needed (e, free))
 
-pub keeps-lifted : {A : Type 0} (w : World) (x : Step A Need) → Keeps Any (MakesNode w) (lifted w x)
-keeps-lifted w (Go a) = found_so tt
-keeps-lifted w (Refuse e) = refused
-keeps-lifted w (Wants x) = keeps-shadow w x
+pub keeps-lifted : {A : Type 0} (w : World) (x : Step A Need) → Free (facts_of w) x → Keeps Any (MakesNode w) (lifted w x)
+keeps-lifted w (Go a) free = found_so tt
+keeps-lifted w (Refuse e) free = refused
+keeps-lifted w (Wants x) free = keeps-shadow w x free
 
 keeps-copied_place : (w : World) (p : Seen) → Keeps Any (MakesNode w) (copied_place w p)
 keeps-copied_place w (Mem m i) = found_so tt
@@ -90,30 +92,30 @@ keeps-copied w p = keeps-copied_place w (bare p)
 
 -- ---- what a walk found
 
-pub keeps-place_at : (w : World) (a : Found) → Keeps Any (MakesNode w) (place_at w a)
-keeps-place_at w (found.At p) = found_so tt
-keeps-place_at w (found.Need x) = keeps-shadow w x
-keeps-place_at w _ = refused
+pub keeps-place_at : (w : World) (a : Found) → FreeFound (facts_of w) a → Keeps Any (MakesNode w) (place_at w a)
+keeps-place_at w (found.At p) free = found_so tt
+keeps-place_at w (found.Need x) free = keeps-shadow w x free
+keeps-place_at w _ free = refused
 
-pub keeps-mount_at : (w : World) (a : Found) → Keeps Any (MakesNode w) (mount_at w a)
-keeps-mount_at w (found.Mount m) = found_so tt
-keeps-mount_at w (found.Need x) = keeps-shadow w x
-keeps-mount_at w _ = refused
+pub keeps-mount_at : (w : World) (a : Found) → FreeFound (facts_of w) a → Keeps Any (MakesNode w) (mount_at w a)
+keeps-mount_at w (found.Mount m) free = found_so tt
+keeps-mount_at w (found.Need x) free = keeps-shadow w x free
+keeps-mount_at w _ free = refused
 
-pub keeps-target_at : (w : World) (dot : Errno) (a : Found) → Keeps Any (MakesNode w) (target_at w dot a)
-keeps-target_at w dot (found.In d n c) = found_so tt
-keeps-target_at w dot (found.Need x) = keeps-shadow w x
-keeps-target_at w dot _ = refused
+pub keeps-target_at : (w : World) (dot : Errno) (a : Found) → FreeFound (facts_of w) a → Keeps Any (MakesNode w) (target_at w dot a)
+keeps-target_at w dot (found.In d n c) free = found_so tt
+keeps-target_at w dot (found.Need x) free = keeps-shadow w x free
+keeps-target_at w dot _ free = refused
 
 pub keeps-there : {N : Inner → Type 0} (o : Option Seen) → Keeps Any N (there o)
 keeps-there (Some p) = found_so tt
 keeps-there None = refused
 
-pub keeps-dir_at : (w : World) (a : Found) → Keeps Any (MakesNode w) (dir_at w a)
-keeps-dir_at w a = then (place_at w a) (keeps-place_at w a) (λ p _. unless (not (is_dir (facts_of w) p)) _ (λ _. found_so tt))
+pub keeps-dir_at : (w : World) (a : Found) → FreeFound (facts_of w) a → Keeps Any (MakesNode w) (dir_at w a)
+keeps-dir_at w a free = then (place_at w a) (keeps-place_at w a free) (λ p _. unless (not (is_dir (facts_of w) p)) _ (λ _. found_so tt))
 
-pub keeps-free_target : (w : World) (a : Found) → Keeps Any (MakesNode w) (free_target w a)
-keeps-free_target w a = then (target_at w errno.EEXIST a) (keeps-target_at w errno.EEXIST a) (λ t _. unless (is_some t.child) _ (λ _. found_so tt))
+pub keeps-free_target : (w : World) (a : Found) → FreeFound (facts_of w) a → Keeps Any (MakesNode w) (free_target w a)
+keeps-free_target w a free = then (target_at w errno.EEXIST a) (keeps-target_at w errno.EEXIST a free) (λ t _. unless (is_some t.child) _ (λ _. found_so tt))
 
 -- ---- paths
 

@@ -13,9 +13,17 @@ use Rattle.vfs_tree.specs.Views.{kind_of_node, is_linked_in, facts_in, dir_in, d
 use Rattle.vfs_tree.specs.declared.node.Node.{Node}
 use Rattle.vfs_tree.specs.declared.node.Node.TheVariants.{Dir, File, Link}
 use Rattle.vfs_tree.specs.declared.node.Store.{Store}
+use Rattle.vfs_tree.specs.declared.walk.Step.TheVariants.{Wants}
 use Rattle.vfs_tree.specs.declared.world.World.{World}
 use Rattle.call_model.specs.Checks.{upper_store}
 use Rattle.call_model.specs.Effects.{shadowed}
+use Rattle.call_model.specs.Rows.{row}
+use Rattle.call_model.specs.declared.call.Call.{Call}
+use Rattle.call_model.specs.declared.entry.Inner.TheVariants.{Shadow}
+use Rattle.call_laws.specs.Needing.{IsFree}
+use Rattle.call_laws.proofs.MountParts.{FreeInner}
+use Rattle.call_laws.proofs.Parts.{Keeps}
+use Rattle.call_laws.proofs.RowLaws.{row_free}
 use Rattle.call_laws.proofs.MadeLaws.{IsFresh, StoreNames, made_names, kind_stays}
 use Rattle.call_laws.proofs.NamedLaws.{no_way}
 use Rattle.call_laws.proofs.SoundParts.{if_each, each_place, Stays, stays_place, stays_dir}
@@ -93,3 +101,9 @@ module _ (w : World) (s u : ℕ) (n : List ℕ) (node : Node) (numbered : IsNumb
 -- a shadow directory is made where the upper directory has nothing
 pub sound-shadow : (w : World) (m u : ℕ) (n : List ℕ) → IsNumbered w → is_linked (facts_of w) (upper_store w m) u ≡ true → is_given ((facts_of w).entry (upper_store w m) u n) ≡ false → IsSound w → IsSound (shadowed w m u n)
 sound-shadow w m u n numbered linked free h = sound-made w (upper_store w m) u n (new_dir u false) numbered linked free (refl, refl) h
+
+-- so where a call needs it
+pub sound-needed_shadow : (w : World) (c m u : ℕ) (n : List ℕ) (call : Call) → row w c call ≡ Wants (Shadow m u n) → IsNumbered w → IsSound w → IsSound (shadowed w m u n)
+sound-needed_shadow w c m u n call needs numbered h =
+    let free : IsFree (facts_of w) m u n = (subst (λ o. Keeps (λ x. Unit {0}) (FreeInner w) o) needs (row_free w c call)).holds in
+    sound-shadow w m u n numbered free.linked (ap is_given free.free) h

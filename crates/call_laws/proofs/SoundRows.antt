@@ -29,6 +29,7 @@ use Rattle.call_model.specs.declared.entry.Ref.{Ref}
 use Rattle.call_model.specs.declared.reply.Reply.{Reply}
 use Rattle.call_laws.specs.Quiet.{IsQuiet}
 use Rattle.call_laws.proofs.DataParts.{keeps-descriptor, keeps-check_read, keeps-offset_of}
+use Rattle.call_laws.proofs.NeedLaws.{FreeFound, free-found, free-visible}
 use Rattle.call_laws.proofs.NameParts.{keeps-stat_of, keeps-link_text}
 use Rattle.call_laws.proofs.Parts.{Keeps, Any, MakesNode, found_so, refused, needed, weaker, then, unless, keeps-lifted, keeps-place_at, keeps-check_way}
 use Rattle.call_laws.proofs.SoundLaws.{sound-open, sound-closed, sound-cwd}
@@ -83,7 +84,7 @@ sound-readdir w c d h =
     then (rows.descriptor w c d) (keeps-descriptor w c d) (λ o _.
     unless o.dead _ (λ _.
     unless (not (is_dir (facts_of w) o.place)) _ (λ _.
-    then (lifted w (visible w o.place)) (keeps-lifted w (visible w o.place)) (λ _ _. found_so h))))
+    then (lifted w (visible w o.place)) (keeps-lifted w (visible w o.place) (free-visible w o.place)) (λ _ _. found_so h))))
 
 -- an open directory that isn't dead
 sound-open_dir : (w : World) (c d : ℕ) → IsSound w → Keeps (IsSoundPlace (facts_of w)) (MakesNode w) (rows.open_dir w c d)
@@ -95,42 +96,42 @@ sound-fchdir : (w : World) (c d : ℕ) → IsSound w → Keeps Leaves (MakesNode
 sound-fchdir w c d h =
     then (rows.open_dir w c d) (sound-open_dir w c d h) (λ p place. found_so (sound-cwd w c (record { place = p; dead = false }) h place))
 
-sound-stat : (w : World) (a : Found) → IsSound w → Keeps Leaves (MakesNode w) (names.stat w a)
-sound-stat w a h =
-    then (place_at w a) (keeps-place_at w a) (λ p _.
+sound-stat : (w : World) (a : Found) → FreeFound (facts_of w) a → IsSound w → Keeps Leaves (MakesNode w) (names.stat w a)
+sound-stat w a fa h =
+    then (place_at w a) (keeps-place_at w a fa) (λ p _.
     then (names.stat_of (node_of w p)) (keeps-stat_of (MakesNode w) (node_of w p)) (λ known _. found_so h))
 
-sound-readlink : (w : World) (a : Found) → IsSound w → Keeps Leaves (MakesNode w) (names.readlink w a)
-sound-readlink w a h =
-    then (place_at w a) (keeps-place_at w a) (λ p _.
+sound-readlink : (w : World) (a : Found) → FreeFound (facts_of w) a → IsSound w → Keeps Leaves (MakesNode w) (names.readlink w a)
+sound-readlink w a fa h =
+    then (place_at w a) (keeps-place_at w a fa) (λ p _.
     then (names.link_text (target_of (facts_of w) p)) (keeps-link_text w (target_of (facts_of w) p)) (λ text _. found_so h))
 
-sound-statfs : (w : World) (a : Found) → IsSound w → Keeps Leaves (MakesNode w) (names.statfs w a)
-sound-statfs w a h = then (place_at w a) (keeps-place_at w a) (λ p _. found_so h)
+sound-statfs : (w : World) (a : Found) → FreeFound (facts_of w) a → IsSound w → Keeps Leaves (MakesNode w) (names.statfs w a)
+sound-statfs w a fa h = then (place_at w a) (keeps-place_at w a fa) (λ p _. found_so h)
 
 sound-revoke_next : (w : World) (o : Option Ref) → IsSound w → Keeps Leaves AnyNeed (mounts.revoke_next w o)
 sound-revoke_next w (Some at) h = needed tt
 sound-revoke_next w None h = found_so h
 
-sound-revoke : (w : World) (a : Found) → IsSound w → Keeps Leaves AnyNeed (mounts.revoke w a)
-sound-revoke w a h =
-    then (place_at w a) (weaker (place_at w a) (λ _ s. s) (λ _ _. tt) (keeps-place_at w a)) (λ p _.
+sound-revoke : (w : World) (a : Found) → FreeFound (facts_of w) a → IsSound w → Keeps Leaves AnyNeed (mounts.revoke w a)
+sound-revoke w a fa h =
+    then (place_at w a) (weaker (place_at w a) (λ _ s. s) (λ _ _. tt) (keeps-place_at w a fa)) (λ p _.
     unless (not (is_file (facts_of w) p)) _ (λ _. sound-revoke_next w (first_open w p) h))
 
-sound-decided : (w : World) (c : ℕ) (call : Call) → IsQuiet call → IsSound w → (a b : Found) → Keeps Leaves AnyNeed (decided w c call a b)
-sound-decided w c (call.Close d) quiet h a b = free _ (sound-close w c d h)
-sound-decided w c (call.Read d n) quiet h a b = free _ (sound-read w c d n h)
-sound-decided w c (call.Pread d n o) quiet h a b = free _ (sound-pread w c d n o h)
-sound-decided w c (call.Lseek d x i) quiet h a b = free _ (sound-lseek w c d x i h)
-sound-decided w c (call.Stat p) quiet h a b = free _ (sound-stat w a h)
-sound-decided w c (call.Lstat p) quiet h a b = free _ (sound-stat w a h)
-sound-decided w c (call.Fstat d) quiet h a b = free _ (sound-fstat w c d h)
-sound-decided w c (call.Readdir d) quiet h a b = free _ (sound-readdir w c d h)
-sound-decided w c (call.Readlink p) quiet h a b = free _ (sound-readlink w a h)
-sound-decided w c (call.Fchdir d) quiet h a b = free _ (sound-fchdir w c d h)
-sound-decided w c (call.Statfs p) quiet h a b = free _ (sound-statfs w a h)
-sound-decided w c (call.Revoke p) quiet h a b = sound-revoke w a h
-sound-decided w c _ quiet h a b = absurd quiet
+sound-decided : (w : World) (c : ℕ) (call : Call) → IsQuiet call → IsSound w → (a b : Found) → FreeFound (facts_of w) a → Keeps Leaves AnyNeed (decided w c call a b)
+sound-decided w c (call.Close d) quiet h a b fa = free _ (sound-close w c d h)
+sound-decided w c (call.Read d n) quiet h a b fa = free _ (sound-read w c d n h)
+sound-decided w c (call.Pread d n o) quiet h a b fa = free _ (sound-pread w c d n o h)
+sound-decided w c (call.Lseek d x i) quiet h a b fa = free _ (sound-lseek w c d x i h)
+sound-decided w c (call.Stat p) quiet h a b fa = free _ (sound-stat w a fa h)
+sound-decided w c (call.Lstat p) quiet h a b fa = free _ (sound-stat w a fa h)
+sound-decided w c (call.Fstat d) quiet h a b fa = free _ (sound-fstat w c d h)
+sound-decided w c (call.Readdir d) quiet h a b fa = free _ (sound-readdir w c d h)
+sound-decided w c (call.Readlink p) quiet h a b fa = free _ (sound-readlink w a fa h)
+sound-decided w c (call.Fchdir d) quiet h a b fa = free _ (sound-fchdir w c d h)
+sound-decided w c (call.Statfs p) quiet h a b fa = free _ (sound-statfs w a fa h)
+sound-decided w c (call.Revoke p) quiet h a b fa = sound-revoke w a fa h
+sound-decided w c _ quiet h a b fa = absurd quiet
 
 ways : (call : Call) → Keeps Any AnyNeed (check_way (first_way call) >> check_way (second_way call))
 ways call =
@@ -139,7 +140,7 @@ ways call =
 
 sound-row : (w : World) (c : ℕ) (call : Call) → IsQuiet call → IsSound w → Keeps Leaves AnyNeed (row w c call)
 sound-row w c call quiet h =
-    then (check_way (first_way call) >> check_way (second_way call)) (ways call) (λ _ _. sound-decided w c call quiet h (first_found w c call) (second_found w c call))
+    then (check_way (first_way call) >> check_way (second_way call)) (ways call) (λ _ _. sound-decided w c call quiet h (first_found w c call) (second_found w c call) (free-found w c (first_way call)))
 
 settled : (w : World) (o : Outcome) → IsSound w → Keeps Leaves AnyNeed o → IsSound (world_after w (settle w o))
 settled w (Go x) h k = k.holds

@@ -1,17 +1,17 @@
-ghost use Rattle.std.specs.Prelude.{◌≡◌, ℕ, List, None, false, true};
+ghost use Rattle.std.specs.Prelude.{◌≡◌, ℕ, List, None};
 ghost use Rattle.std.specs.FinMap.{get};
-ghost use Rattle.vfs_tree.specs.Layers.{is_linked};
-ghost use Rattle.vfs_tree.specs.Nodes.{IsNumbered, is_given};
+ghost use Rattle.vfs_tree.specs.Nodes.{IsNumbered};
 ghost use Rattle.vfs_tree.specs.Sound.{IsSound};
 ghost use Rattle.vfs_tree.specs.Start.{start_world};
-ghost use Rattle.vfs_tree.specs.Views.{facts_of};
 ghost use Rattle.vfs_tree.specs.declared.limits.Limits.{Limits};
+ghost use Rattle.vfs_tree.specs.declared.walk.Step.TheVariants.{Wants};
 ghost use Rattle.vfs_tree.specs.declared.world.World.{World};
-ghost use Rattle.call_model.specs.Checks.{upper_store};
 ghost use Rattle.call_model.specs.Effects.{detached, doomed, shadowed};
 ghost use Rattle.call_model.specs.Legal.{after};
+ghost use Rattle.call_model.specs.Rows.{row};
 ghost use Rattle.call_model.specs.declared.call.Call.{Call};
 ghost use Rattle.call_model.specs.declared.entry.Entry.TheVariants as entry;
+ghost use Rattle.call_model.specs.declared.entry.Inner.TheVariants.{Shadow};
 ghost use Rattle.call_model.specs.declared.entry.Ref.{Ref};
 ghost use Rattle.call_model.specs.declared.reply.Reply.{Reply};
 ghost use Rattle.call_laws.specs.Quiet.{IsQuiet};
@@ -26,11 +26,9 @@ pub fn an_entry_keeps_worlds_sound()
     ensures doom { (w : World) (at : Ref) → IsSound w → IsSound (doomed w at) }
     // A mount is detached by a caller that is leaving none.
     ensures detach { (w : World) (c m : ℕ) → get w.leaving c ≡ None → IsSound w → IsSound (detached w c m) }
-    // A shadow directory is made in a linked directory of the upper layer that has nothing at the name.
-    ensures shadow { (w : World) (m u : ℕ) (n : List ℕ)
-        → IsNumbered w → is_linked (facts_of w) (upper_store w m) u ≡ true
-        → is_given ((facts_of w).entry (upper_store w m) u n) ≡ false
-        → IsSound w → IsSound (shadowed w m u n) }
+    // A shadow directory is one that a call needs.
+    ensures shadow { (w : World) (c m u : ℕ) (n : List ℕ) (call : Call)
+        → row w c call ≡ Wants (Shadow m u n) → IsNumbered w → IsSound w → IsSound (shadowed w m u n) }
 {}
 
 /// A call that changes no name, node or mount, and opens nothing by a path, leaves a sound world: a law of the model,
