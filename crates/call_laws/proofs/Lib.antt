@@ -22,3 +22,6 @@ pub mod MadeLaws
 pub mod SoundMade
 pub mod SoundRows
 pub mod NeedLaws
+pub mod FoundLaws
+pub mod PlaceLaws
+pub mod ChdirLaws

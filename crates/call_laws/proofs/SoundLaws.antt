@@ -40,7 +40,7 @@ use Rattle.call_laws.proofs.SoundParts.{first_of, second_of, both_of, if_each, e
 -- ---- the world at the start
 
 -- a map with one entry
-only : {X : Type 0} (k : ℕ) (v : X) (q : ℕ) (P : Option X → Type 0) → (q ≡ k → P (Some v)) → P None → P (get (insert {R = nat_cmp} empty k v) q)
+pub only : {X : Type 0} (k : ℕ) (v : X) (q : ℕ) (P : Option X → Type 0) → (q ≡ k → P (Some v)) → P None → P (get (insert {R = nat_cmp} empty k v) q)
 only {X = X} k v q P here none = by_key nat_cmp_total exact_unsigned empty k v q P here (subst P (sym (get-empty {X = X} nat_cmp q)) none)
 
 module _ (limits : Limits) where
@@ -73,7 +73,7 @@ module _ (limits : Limits) where
   start_root : kind_in f 0 ≡ Some kind.Mem
   start_root = ap (option_map (λ (t : Mount). t.kind)) (get_at-insert nat_cmp_total empty 0 root_mount)
 
-  start_node : node_at w 0 1 ≡ Some (empty_dir 1)
+  pub start_node : node_at w 0 1 ≡ Some (empty_dir 1)
   start_node =
       ap (option_and_then (λ (t : Store). get t.nodes 1)) (get_at-insert nat_cmp_total empty 0 empty_store)
       ∙ get_at-insert nat_cmp_total empty 1 (empty_dir 1)
@@ -85,7 +85,7 @@ module _ (limits : Limits) where
     files = tt;
   }
 
-  each_root : (n c : ℕ) → IfSome (get (root_cwds n) c) (λ d. d ≡ root_cwd)
+  pub each_root : (n c : ℕ) → IfSome (get (root_cwds n) c) (λ d. d ≡ root_cwd)
   each_root zero c = subst (λ o. IfSome o (λ d. d ≡ root_cwd)) (sym (get-empty {X = Cwd} nat_cmp c)) tt
   each_root (suc n) c = by_key nat_cmp_total exact_unsigned (root_cwds n) (suc n) root_cwd c (λ o. IfSome o (λ d. d ≡ root_cwd)) (λ _. refl) (each_root n c)
 

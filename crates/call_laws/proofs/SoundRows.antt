@@ -39,7 +39,7 @@ abbrev AnyNeed : Inner → Type 0
 AnyNeed x = Unit {0}
 
 -- the world that is left is sound
-abbrev Leaves : World × Reply → Type 0
+abbrev pub Leaves : World × Reply → Type 0
 Leaves x = IsSound x.0
 
 free : {N : Inner → Type 0} (m : Outcome) → Keeps Leaves N m → Keeps Leaves AnyNeed m
@@ -138,10 +138,6 @@ ways call =
     then (check_way (first_way call)) (keeps-check_way AnyNeed (first_way call)) (λ _ _.
     weaker (check_way (second_way call)) (λ _ _. tt) (λ _ _. tt) (keeps-check_way AnyNeed (second_way call)))
 
-sound-row : (w : World) (c : ℕ) (call : Call) → IsQuiet call → IsSound w → Keeps Leaves AnyNeed (row w c call)
-sound-row w c call quiet h =
-    then (check_way (first_way call) >> check_way (second_way call)) (ways call) (λ _ _. sound-decided w c call quiet h (first_found w c call) (second_found w c call) (free-found w c (first_way call)))
-
 settled : (w : World) (o : Outcome) → IsSound w → Keeps Leaves AnyNeed o → IsSound (world_after w (settle w o))
 settled w (Go x) h k = k.holds
 settled w (Refuse e) h k = h
@@ -151,7 +147,16 @@ either : (b : Bool) (w new : World) → IsSound w → IsSound new → IsSound (c
 either true w new p q = p
 either false w new p q = q
 
+-- a call whose row leaves a sound world
+sound-decide : (w : World) (c : ℕ) (call : Call) (r : Reply) → IsSound w → Keeps Leaves AnyNeed (decided w c call (first_found w c call) (second_found w c call)) → IsSound (after w (entry.Call c call r))
+sound-decide w c call r h k =
+    either (is_no_memory r) w (world_after w (apply w c call)) h
+        (settled w (row w c call) h (then (check_way (first_way call) >> check_way (second_way call)) (ways call) (λ _ _. k)))
+
+pub sound-by : (w : World) (c : ℕ) (call : Call) (r : Reply) → IsSound w → Keeps Leaves (MakesNode w) (decided w c call (first_found w c call) (second_found w c call)) → IsSound (after w (entry.Call c call r))
+sound-by w c call r h k = sound-decide w c call r h (free (decided w c call (first_found w c call) (second_found w c call)) k)
+
 -- the entry of such a call leaves a sound world
 pub sound-quiet : (w : World) (c : ℕ) (call : Call) (r : Reply) → IsQuiet call → IsSound w → IsSound (after w (entry.Call c call r))
 sound-quiet w c call r quiet h =
-    either (is_no_memory r) w (world_after w (apply w c call)) h (settled w (row w c call) h (sound-row w c call quiet h))
+    sound-decide w c call r h (sound-decided w c call quiet h (first_found w c call) (second_found w c call) (free-found w c (first_way call)))

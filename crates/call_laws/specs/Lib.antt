@@ -6,3 +6,4 @@ pub mod Flags
 pub mod Prefixes
 pub mod Quiet
 pub mod Needing
+pub mod Lasting

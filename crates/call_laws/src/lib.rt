@@ -9,6 +9,7 @@ mod kept;
 mod leaving;
 mod live;
 mod needs;
+mod places;
 mod prefixes;
 mod refusals;
 mod revoking;
@@ -22,6 +23,7 @@ pub use kept::a_world_keeps_what_is_reached;
 pub use leaving::an_entry_keeps_leavers;
 pub use live::{a_doom_leaves_fewer_live, an_entry_adds_no_live};
 pub use needs::a_walk_needs_what_is_free;
+pub use places::{a_path_finds_a_sound_place, chdir_keeps_worlds_sound};
 pub use prefixes::legal_histories_join;
 pub use refusals::{only_a_doom_makes_dead, refusals_leave_the_world};
 pub use revoking::{

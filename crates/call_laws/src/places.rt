@@ -1,0 +1,32 @@
+ghost use Rattle.std.specs.Prelude.{◌≡◌, ℕ, List};
+ghost use Rattle.vfs_tree.specs.Place.{Seen};
+ghost use Rattle.vfs_tree.specs.Sound.{IsSound, IsSoundPlace};
+ghost use Rattle.vfs_tree.specs.Start.{start_world};
+ghost use Rattle.vfs_tree.specs.Views.{facts_of};
+ghost use Rattle.vfs_tree.specs.declared.limits.Limits.{Limits};
+ghost use Rattle.vfs_tree.specs.declared.walk.Found.TheVariants as found;
+ghost use Rattle.vfs_tree.specs.declared.walk.Leaf.TheVariants as leaf;
+ghost use Rattle.vfs_tree.specs.declared.world.World.{World};
+ghost use Rattle.call_model.specs.Legal.{after};
+ghost use Rattle.call_model.specs.Rows.{found_at, way};
+ghost use Rattle.call_model.specs.declared.call.Call.TheVariants as call;
+ghost use Rattle.call_model.specs.declared.entry.Entry.TheVariants as entry;
+ghost use Rattle.call_model.specs.declared.reply.Reply.{Reply};
+ghost use Rattle.call_laws.specs.Lasting.{IsLasting, IsUncut};
+
+/// A path that is followed to its end finds a sound place: a law of the model, with no code.
+pub fn a_path_finds_a_sound_place()
+    ensures sound { (w : World) → IsSound w → IsLasting w → (c : ℕ) (text : List ℕ) (p : Seen)
+        → found_at w c (way leaf.Follow text) ≡ found.At p → IsSoundPlace (facts_of w) p }
+    // None of the mounts through which it is seen is cut.
+    ensures uncut { (w : World) → IsSound w → IsLasting w → (c : ℕ) (text : List ℕ) (p : Seen)
+        → found_at w c (way leaf.Follow text) ≡ found.At p → IsUncut (facts_of w) p }
+    // What this rests on holds at the start.
+    ensures start { (limits : Limits) → IsLasting (start_world limits) }
+{}
+
+/// A caller that changes its current directory leaves a sound world: a law of the model, with no code.
+pub fn chdir_keeps_worlds_sound()
+    ensures { (w : World) → IsSound w → IsLasting w → (c : ℕ) (text : List ℕ) (r : Reply)
+        → IsSound (after w (entry.Call c (call.Chdir text) r)) }
+{}
