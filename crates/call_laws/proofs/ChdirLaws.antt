@@ -1,8 +1,7 @@
 -- A caller's current directory is set to a sound place.
-use Rattle.std.proofs.Common.{◌≡◌, ℕ, Bool, true, false, cond, not, List}
+use Rattle.std.proofs.Common.{ℕ, false, not, List}
 use Rattle.vfs_tree.specs.Layers.{is_dir}
-use Rattle.vfs_tree.specs.Place.{Seen}
-use Rattle.vfs_tree.specs.Sound.{IsSoundPlace, IsSound}
+use Rattle.vfs_tree.specs.Sound.{IsSound}
 use Rattle.vfs_tree.specs.Views.{facts_of}
 use Rattle.vfs_tree.specs.declared.walk.Found.{Found}
 use Rattle.vfs_tree.specs.declared.walk.Found.TheVariants as found

@@ -18,8 +18,7 @@ use Rattle.call_model.specs.declared.entry.Entry.{Entry}
 use Rattle.call_model.specs.declared.entry.Entry.TheVariants as entry
 use Rattle.call_model.specs.declared.entry.Inner.{Inner}
 use Rattle.call_model.specs.declared.entry.Inner.TheVariants as inner
-use Rattle.call_model.specs.declared.reply.Reply.{Reply}
-use Rattle.call_model.specs.NameEdits.{Edit, edited, edited_by, drop_edit, set_edit, clear_edits, remove_edits, move_edits, rename_edits, rename_found, open_edits, mkdir_edits, symlink_edits, link_edits, undelete_edits, mount_mem_edits, mount_null_edits, mount_union_edits, umount_edits, umount_force_edits, call_edits, inner_edits, is_fail, edits_of, edits}
+use Rattle.call_model.specs.NameEdits.{Edit, edited, edited_by, clear_edits, remove_edits, move_edits, rename_edits, rename_found, open_edits, mkdir_edits, symlink_edits, link_edits, undelete_edits, mount_mem_edits, mount_null_edits, mount_union_edits, umount_edits, umount_force_edits, call_edits, inner_edits, is_fail, edits_of, edits}
 
 abbrev Few : ℕ → List Edit → Type 0
 Few n es = length es ≤ n

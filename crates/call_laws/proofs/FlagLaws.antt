@@ -4,7 +4,7 @@ use Rattle.std.proofs.Common.{◌≡◌, ℕ, Bool, true, false, cond, List, [],
 use Rattle.std.specs.Prelude.{Option, Some, None, option_map}
 use Rattle.std.specs.Cmp.{IsTotalOrder, nat_cmp_total}
 use Rattle.std.specs.Ordering.{eq_by_cmp}
-use Rattle.std.specs.FinMap.{FinMap, get, insert, remove, entries, find, get-insert, get-remove, get-entries, get-from_entries}
+use Rattle.std.specs.FinMap.{FinMap, get, insert, remove, entries, find, get-remove, get-entries, get-from_entries}
 use Rattle.finite_maps.specs.Keys.{pair_cmp}
 use Rattle.finite_maps.proofs.EntryLaws.{pair_total, pair_exact, by_key}
 use Rattle.std.proofs.lemmas.Map.Lookups.{exact_unsigned}

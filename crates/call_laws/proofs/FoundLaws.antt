@@ -1,26 +1,21 @@
 -- What walks find is sound.
-use Rattle.std.proofs.Common.{◌≡◌, ℕ, zero, suc, Bool, true, false, cond, not, ◌&&◌, ◌||◌, ◌==◌, List, [], ◌∷◌, map, refl, ap, sym, ◌∙◌, subst, nat_cmp}
+use Rattle.std.proofs.Common.{◌≡◌, ℕ, zero, suc, Bool, true, false, cond, not, ◌&&◌, ◌||◌, ◌==◌, List, [], ◌∷◌, refl, ap, ◌∙◌, subst}
 use Rattle.std.specs.Prelude.{Option, Some, None, IsSome, IfSome, is_some, option_map, option_and_then}
-use Rattle.std.specs.List.{AllByRecursion, find as find_in}
-use Rattle.std.specs.Cmp.{nat_cmp_total}
-use Rattle.std.specs.FinMap.{get, entries, values}
 use Rattle.vfs_tree.specs.Child.{Lookup, child_mem, child_null, child_below, child_low, child_union, only_dir, below_named, low_case, low_within, low_by, upper_entry, child_within, child_of, steps}
 use Rattle.vfs_tree.specs.Facts.{Facts}
-use Rattle.vfs_tree.specs.Layers.{kind_in, store_by, base, kind_of, is_dir, is_linked, is_opaque, is_root, is_cut, parent_ino, parent_by, parent_in, parent_unless, root_by, root_of, on_of, cut_by, target_of}
+use Rattle.vfs_tree.specs.Layers.{kind_in, store_by, base, is_dir, is_linked, is_opaque, is_root, is_cut, parent_ino, parent_by, parent_in, parent_unless, root_by, root_of, on_of, cut_by, target_of}
 use Rattle.vfs_tree.specs.Mounts.{covers, covering}
-use Rattle.vfs_tree.specs.Paths.{Path, parse, is_empty, has_zero, is_too_long}
+use Rattle.vfs_tree.specs.Paths.{Path, parse}
 use Rattle.vfs_tree.specs.Place.{Seen, Mem, Null, UnionUp, UnionLow, mount_of}
-use Rattle.vfs_tree.specs.Sound.{is_mem, is_null, is_union, names_mounts, AreFiles, IsSoundPlace, IsSoundDir, EachLayer, EachPlace, IsSoundView, IsSound}
+use Rattle.vfs_tree.specs.Sound.{is_mem, is_null, is_union, names_mounts, IsSoundPlace, IsSoundDir, EachLayer, EachPlace, IsSoundView}
 use Rattle.vfs_tree.specs.Steps.{◌>>=◌, ◌>>◌, refuse_if}
-use Rattle.vfs_tree.specs.Views.{facts_of}
-use Rattle.vfs_tree.specs.Walk.{Walked, Jump, enter_case, enter_within, entered, leave_case, leave_within, leave, above, check_dir, absent, followed, pass, pass_child, along, begin, spliced, jump_along, jump_within, walk_from, in_place, in_cwd, walk_path, walk, found_of, find}
+use Rattle.vfs_tree.specs.Walk.{Walked, Jump, enter_case, enter_within, entered, leave_case, leave_within, leave, above, check_dir, pass, pass_child, along, begin, spliced, jump_along, jump_within, walk_from, walk, found_of, find}
 use Rattle.vfs_tree.specs.declared.errno.Errno.{Errno}
 use Rattle.vfs_tree.specs.declared.mount.Mount.{Mount}
 use Rattle.vfs_tree.specs.declared.mount.MountKind.{MountKind}
 use Rattle.vfs_tree.specs.declared.mount.MountKind.TheVariants as kind
 use Rattle.vfs_tree.specs.declared.node.NameEntry.{NameEntry}
 use Rattle.vfs_tree.specs.declared.node.NameEntry.TheVariants.{Ino, White}
-use Rattle.vfs_tree.specs.declared.open.Cwd.{Cwd}
 use Rattle.vfs_tree.specs.declared.view.DirFacts.{DirFacts}
 use Rattle.vfs_tree.specs.declared.walk.Child.{Child}
 use Rattle.vfs_tree.specs.declared.walk.Child.TheVariants as child
@@ -32,11 +27,9 @@ use Rattle.vfs_tree.specs.declared.walk.Leaf.TheVariants.{Follow}
 use Rattle.vfs_tree.specs.declared.walk.Need.{Need}
 use Rattle.vfs_tree.specs.declared.walk.Step.{Step}
 use Rattle.vfs_tree.specs.declared.walk.Step.TheVariants.{Go, Refuse, Wants}
-use Rattle.vfs_tree.specs.declared.world.World.{World}
-use Rattle.call_laws.specs.Lasting.{lower_mount, IsOver, IsUncut, IsLasting}
+use Rattle.call_laws.specs.Lasting.{IsUncut}
 use Rattle.call_laws.proofs.NamedLaws.{no_way}
 use Rattle.call_laws.proofs.SoundParts.{first_of, second_of, both_of}
-use Rattle.call_laws.proofs.WeightLaws.{all_given}
 
 -- a sound place in mounts that aren't cut
 pub record IsGood (f : Facts) (p : Seen) : Type 0 where

@@ -6,7 +6,6 @@ use Rattle.std.specs.Prelude.{Option, Some, None, option_map}
 use Rattle.std.specs.Cmp.{nat_cmp_total}
 use Rattle.std.specs.Ordering.{eq_by_cmp, is_eq}
 use Rattle.std.specs.FinMap.{FinMap, get, contains_key, retain_keys, entries, find, get-entries, get-from_entries, get-retain_keys, nat_cmp-IsAntisymmetric}
-use Rattle.vfs_tree.specs.declared.node.Node.{Node}
 use Rattle.vfs_tree.specs.declared.node.Store.{Store}
 use Rattle.vfs_tree.specs.declared.world.World.{World}
 use Rattle.call_model.specs.Kept.{is_kept, kept_store, kept}

@@ -1,12 +1,12 @@
 -- The names of a store stay sound where a node is made at a name.
-use Rattle.std.proofs.Common.{◌≡◌, ℕ, zero, suc, ◌+◌, ◌<◌, ◌⊎◌, inl, inr, Bool, true, false, cond, ◌==◌, ◌||◌, List, [], refl, ap, sym, ◌∙◌, subst, arith, nat_cmp}
-use Rattle.std.specs.Prelude.{Option, Some, None, IsSome, IfSome, is_some, option_map, option_and_then}
+use Rattle.std.proofs.Common.{◌≡◌, ℕ, zero, suc, ◌<◌, ◌⊎◌, inl, inr, Bool, true, false, ◌==◌, ◌||◌, List, [], refl, ap, sym, ◌∙◌, subst, arith, nat_cmp}
+use Rattle.std.specs.Prelude.{Option, Some, None, IsSome, is_some, option_map, option_and_then}
 use Rattle.std.specs.Cmp.{nat_cmp_total}
 use Rattle.std.specs.Cmp.Lexicographic.{nat_list_cmp_total}
 use Rattle.std.specs.FinMap.{FinMap, get, insert, empty, get-empty}
 use Rattle.std.proofs.lemmas.Map.Lookups.{exact_unsigned, exact_bytes}
 use Rattle.finite_maps.proofs.EntryLaws.{by_key, get_at-insert}
-use Rattle.vfs_tree.specs.Edits.{with_names, with_node, with_entry, made}
+use Rattle.vfs_tree.specs.Edits.{with_names, with_node, made}
 use Rattle.vfs_tree.specs.Layers.{linked_by, parent_by}
 use Rattle.vfs_tree.specs.Name.{name_cmp}
 use Rattle.vfs_tree.specs.Nodes.{Names, entry_in, is_given, AreBelow}
@@ -20,8 +20,7 @@ use Rattle.vfs_tree.specs.declared.node.NameEntry.TheVariants.{Ino, White}
 use Rattle.vfs_tree.specs.declared.node.Node.{Node}
 use Rattle.vfs_tree.specs.declared.node.Node.TheVariants.{Dir, File, Link}
 use Rattle.vfs_tree.specs.declared.node.Store.{Store}
-use Rattle.vfs_tree.specs.declared.view.DirFacts.{DirFacts}
-use Rattle.call_laws.proofs.NamedLaws.{no_way, Gives, named_from, named_to, name_is}
+use Rattle.call_laws.proofs.NamedLaws.{no_way, named_from, named_to, name_is}
 
 -- what holds of the names of a store that is there
 abbrev pub StoreNames : Store → Type 0

@@ -1,6 +1,6 @@
 -- Which nodes the names of a store give, told by what stands at its names.
 use Rattle.std.specs.declared.cmp.Ordering.{Ordering}
-use Rattle.std.proofs.Common.{◌≡◌, ℕ, Bool, true, false, cond, ◌==◌, ◌||◌, List, [], ◌∷◌, map, refl, ap, sym, ◌∙◌, subst, nat_cmp, eq-eqb, eqb-true}
+use Rattle.std.proofs.Common.{◌≡◌, ℕ, Bool, true, false, cond, ◌||◌, List, [], ◌∷◌, map, refl, ap, sym, ◌∙◌, nat_cmp, eq-eqb, eqb-true}
 use Rattle.std.specs.Prelude.{Option, Some, None, option_map, option_and_then}
 use Rattle.std.specs.List.{list_any, find as find_in, AllByRecursion}
 use Rattle.std.specs.Cmp.{IsTotalOrder, nat_cmp_total}

@@ -1,16 +1,16 @@
 -- What a walk needs: a shadow directory in a linked directory of the upper layer that has nothing at the name.
-use Rattle.std.proofs.Common.{◌≡◌, ℕ, zero, suc, Bool, true, false, cond, not, ◌&&◌, ◌||◌, ◌==◌, List, [], ◌∷◌, ◌++◌, refl, ap, sym, ◌∙◌, subst}
+use Rattle.std.proofs.Common.{◌≡◌, ℕ, zero, suc, Bool, true, false, cond, not, ◌&&◌, ◌||◌, ◌==◌, List, [], ◌∷◌, refl, ap, ◌∙◌, subst}
 use Rattle.std.specs.Prelude.{Option, Some, None}
 use Rattle.std.specs.FinMap.{get}
 use Rattle.vfs_tree.specs.Child.{Lookup, child_mem, child_null, child_below, child_low, child_union, only_dir, below_named, low_case, low_within, low_by, low, upper_entry, child_within, child_of, steps}
 use Rattle.vfs_tree.specs.Facts.{Facts}
-use Rattle.vfs_tree.specs.Layers.{kind_in, store_by, base, is_dir, is_linked, is_opaque, is_root, is_cut, parent_ino, root_of, target_of}
+use Rattle.vfs_tree.specs.Layers.{kind_in, store_by, base, is_dir, is_linked, is_opaque, is_root, is_cut, parent_ino, root_of}
 use Rattle.vfs_tree.specs.Paths.{Path, parse, is_empty, has_zero, is_too_long}
 use Rattle.vfs_tree.specs.Place.{Seen, Mem, Null, UnionUp, UnionLow, mount_of}
 use Rattle.vfs_tree.specs.Steps.{◌>>=◌, ◌>>◌, refuse_if}
 use Rattle.vfs_tree.specs.Views.{facts_of}
 use Rattle.vfs_tree.specs.Visible.{Listed, listed_below, visible_within, visible, has_visible}
-use Rattle.vfs_tree.specs.Walk.{Walked, Jump, enter_case, enter_within, enter_as, is_mount, is_last, entered, above, check_dir, absent, followed, pass, pass_child, along, begin, spliced, jump_along, jump_within, walk_from, in_place, in_cwd, walk_path, but_last, last_name, named, parent_at, parent_found, mount_found, walk, found_of, find}
+use Rattle.vfs_tree.specs.Walk.{Walked, Jump, enter_case, enter_within, is_mount, is_last, entered, above, check_dir, absent, followed, pass, pass_child, along, begin, spliced, jump_along, jump_within, walk_from, in_place, in_cwd, walk_path, but_last, last_name, named, parent_at, parent_found, mount_found, walk, found_of, find}
 use Rattle.vfs_tree.specs.declared.errno.Errno.{Errno}
 use Rattle.vfs_tree.specs.declared.mount.MountKind.{MountKind}
 use Rattle.vfs_tree.specs.declared.mount.MountKind.TheVariants as kind

@@ -1,14 +1,14 @@
 -- What a caller's path finds, links followed, is sound; and the world at the start lasts.
-use Rattle.std.proofs.Common.{◌≡◌, ℕ, Bool, true, false, cond, not, ◌==◌, List, [], ◌∷◌, map, refl, ap, sym, ◌∙◌, subst, nat_cmp}
+use Rattle.std.proofs.Common.{◌≡◌, ℕ, Bool, true, false, cond, ◌||◌, List, [], ◌∷◌, map, refl, ap, sym, ◌∙◌, subst, nat_cmp}
 use Rattle.std.specs.Prelude.{Option, Some, None, IsSome, IfSome, is_some, option_map, option_and_then}
 use Rattle.std.specs.List.{AllByRecursion, find as find_in}
 use Rattle.std.specs.Cmp.{nat_cmp_total}
-use Rattle.std.specs.FinMap.{get, empty, entries, values, get-empty}
+use Rattle.std.specs.FinMap.{get, empty, entries, get-empty}
 use Rattle.finite_maps.specs.Keys.{pair_cmp}
-use Rattle.finite_maps.proofs.EntryLaws.{get_at-insert}
+use Rattle.finite_maps.proofs.EntryLaws.{pair_total, get_at-insert}
 use Rattle.vfs_tree.specs.Facts.{Facts}
 use Rattle.vfs_tree.specs.Layers.{kind_in, is_cut, cut_by}
-use Rattle.vfs_tree.specs.Mounts.{covers, covering}
+use Rattle.vfs_tree.specs.Mounts.{covers}
 use Rattle.vfs_tree.specs.Place.{Seen, Mem, Null, UnionUp, UnionLow, mount_of}
 use Rattle.vfs_tree.specs.Sound.{EachPlace, IsSoundPlace, IsSound}
 use Rattle.vfs_tree.specs.Start.{empty_dir, empty_store, root_mount, root_cwd, root_cwds, start_world}
@@ -26,12 +26,15 @@ use Rattle.vfs_tree.specs.declared.walk.Found.TheVariants as found
 use Rattle.vfs_tree.specs.declared.walk.Leaf.TheVariants as leaf
 use Rattle.vfs_tree.specs.declared.world.World.{World}
 use Rattle.vfs_tree.proofs.StartLaws.{numbered-start}
+use Rattle.call_model.specs.Effects.{doomed_open, doomed_cwd, doomed_place, doomed}
+use Rattle.call_model.specs.Refs.{place_of}
 use Rattle.call_model.specs.Rows.{way, found_at}
+use Rattle.call_model.specs.declared.entry.Ref.{Ref}
 use Rattle.call_laws.specs.Lasting.{lower_mount, IsOver, IsUncut, IsLasting}
+use Rattle.call_laws.proofs.FlagLaws.{get_each}
 use Rattle.call_laws.proofs.FoundLaws.{IsGood, IsGoodView, head_uncut, good_layers, GoodStep, GoodFound, good_find, unless_cut}
-use Rattle.call_laws.proofs.NamedLaws.{no_way}
 use Rattle.call_laws.proofs.SoundLaws.{only, start_node, each_root}
-use Rattle.call_laws.proofs.SoundParts.{first_of, second_of, if_each}
+use Rattle.call_laws.proofs.SoundParts.{if_each}
 use Rattle.call_laws.proofs.WeightLaws.{all_given}
 
 abbrev number_or : Option ℕ → ℕ
@@ -125,3 +128,32 @@ module _ (limits : Limits) where
     opens = λ k. subst (λ o. IfSome o (λ (o : Open). o.dead ≡ false → IsOver f o.place)) (sym (get-empty {X = Open} pair_cmp k)) tt;
     cwds = λ c. if_each (λ d. d ≡ root_cwd) (λ d. d.dead ≡ false → IsOver f d.place) (λ d e _. subst (λ x. IsOver f x.place) (sym e) tt) (get (root_cwds limits.callers) c) (each_root limits limits.callers c);
   }
+
+-- ---- dooms
+
+mapped : {X : Type 0} (g : X → X) (P Q : X → Type 0) → ((x : X) → P x → Q (g x)) → (o : Option X) → IfSome o P → IfSome (option_map g o) Q
+mapped g P Q h (Some x) p = h x p
+mapped g P Q h None p = tt
+
+alive_before : (a b : Bool) → (a || b) ≡ false → a ≡ false
+alive_before true b e = cc
+alive_before false b e = refl
+
+lasting_doomed_place : (w : World) (o : Option Seen) → IsLasting w → IsLasting (doomed_place w o)
+lasting_doomed_place w (Some p) h = record {
+  numbered = h.numbered;
+  mounts = h.mounts;
+  roots = h.roots;
+  parents = h.parents;
+  first = h.first;
+  uncut = h.uncut;
+  opens = λ k. subst (λ x. IfSome x (λ o. o.dead ≡ false → IsOver (facts_of w) o.place)) (sym (get_each pair_total (doomed_open p) w.opens k))
+      (mapped (doomed_open p) (λ o. o.dead ≡ false → IsOver (facts_of w) o.place) (λ o. o.dead ≡ false → IsOver (facts_of w) o.place) (λ o s e. s (alive_before o.dead _ e)) (get w.opens k) (h.opens k));
+  cwds = λ c. subst (λ x. IfSome x (λ d. d.dead ≡ false → IsOver (facts_of w) d.place)) (sym (get_each nat_cmp_total (doomed_cwd p) w.cwds c))
+      (mapped (doomed_cwd p) (λ d. d.dead ≡ false → IsOver (facts_of w) d.place) (λ d. d.dead ≡ false → IsOver (facts_of w) d.place) (λ d s e. s (alive_before d.dead _ e)) (get w.cwds c) (h.cwds c));
+}
+lasting_doomed_place w None h = h
+
+-- what is doomed leaves what a sound world rests on
+pub lasting-doom : (w : World) (at : Ref) → IsLasting w → IsLasting (doomed w at)
+lasting-doom w at h = lasting_doomed_place w (place_of w at) h

@@ -14,7 +14,7 @@ use Rattle.call_model.specs.Rows.{check_way, first_way, second_way, first_found,
 use Rattle.call_model.specs.MountRows.{umount_by}
 use Rattle.call_model.specs.declared.call.Call.{Call}
 use Rattle.call_model.specs.declared.call.Call.TheVariants as call
-use Rattle.call_laws.specs.Fitting.{Fits, MayNeed}
+use Rattle.call_laws.specs.Fitting.{Fits}
 use Rattle.call_laws.specs.Leaving.{IsLeaver}
 use Rattle.call_laws.proofs.NeedLaws.{FreeFound, free-found}
 use Rattle.call_laws.proofs.Parts.{Keeps, MakesNode, weaker, then, keeps-check_way}

@@ -2,18 +2,18 @@
 use Rattle.std.specs.declared.cmp.Ordering.{Ordering}
 use Rattle.std.specs.declared.cmp.Ordering.TheVariants.{Less, Equal, Greater}
 use Rattle.std.proofs.Common.{◌≡◌, ℕ, zero, suc, Bool, true, false, cond, not, ◌&&◌, ◌||◌, ◌==◌, List, [], ◌∷◌, map, refl, ap, sym, ◌∙◌, subst, nat_cmp}
-use Rattle.std.specs.Prelude.{Option, Some, None, IsSome, IfSome, is_some, option_map, option_and_then}
+use Rattle.std.specs.Prelude.{Option, Some, None, IfSome, is_some, option_map, option_and_then}
 use Rattle.std.specs.List.{list_any}
 use Rattle.std.specs.Cmp.{IsTotalOrder, nat_cmp_total}
 use Rattle.std.specs.Ordering.{eq_by_cmp, is_eq}
-use Rattle.std.specs.FinMap.{FinMap, get, insert, remove, empty, entries, values, find, put, get-empty, get-entries, get-remove, entries-insert}
+use Rattle.std.specs.FinMap.{FinMap, get, insert, remove, empty, entries, find, put, get-empty, get-entries, get-remove, entries-insert}
 use Rattle.std.specs.FinMap.Entries.{by_order}
-use Rattle.std.proofs.lemmas.Map.Lookups.{CmpEqualImpliesEq, exact_unsigned}
+use Rattle.std.proofs.lemmas.Map.Lookups.{exact_unsigned}
 use Rattle.finite_maps.specs.Keys.{pair_cmp}
 use Rattle.finite_maps.proofs.EntryLaws.{pair_total, pair_exact, by_key, get_at-insert}
 use Rattle.vfs_tree.specs.Facts.{Facts}
-use Rattle.vfs_tree.specs.Layers.{kind_in, kind_of, linked_by}
-use Rattle.vfs_tree.specs.Mounts.{Leaving, is_left, is_on, covers, cut_with, is_of}
+use Rattle.vfs_tree.specs.Layers.{kind_in, linked_by}
+use Rattle.vfs_tree.specs.Mounts.{Leaving, is_left, is_on, covers, cut_with}
 use Rattle.vfs_tree.specs.Name.{name_cmp}
 use Rattle.vfs_tree.specs.Nodes.{node_at, entry_in, entry_at}
 use Rattle.vfs_tree.specs.Place.{Seen, Mem}
@@ -21,11 +21,9 @@ use Rattle.vfs_tree.specs.Start.{empty_dir, empty_store, root_mount, root_cwd, r
 use Rattle.vfs_tree.specs.Views.{kind_of_node, facts_in, dir_in, facts_of}
 use Rattle.vfs_tree.specs.declared.limits.Limits.{Limits}
 use Rattle.vfs_tree.specs.declared.mount.Mount.{Mount}
-use Rattle.vfs_tree.specs.declared.mount.MountKind.{MountKind}
 use Rattle.vfs_tree.specs.declared.mount.MountKind.TheVariants as kind
 use Rattle.vfs_tree.specs.declared.node.NameEntry.{NameEntry}
 use Rattle.vfs_tree.specs.declared.node.NameEntry.TheVariants.{Ino}
-use Rattle.vfs_tree.specs.declared.node.Node.{Node}
 use Rattle.vfs_tree.specs.declared.node.Store.{Store}
 use Rattle.vfs_tree.specs.declared.open.Cwd.{Cwd}
 use Rattle.vfs_tree.specs.declared.open.Open.{Open}

@@ -1,9 +1,8 @@
 -- Calls that change no name, node or mount keep a world sound.
-use Rattle.std.proofs.Common.{◌≡◌, ℕ, ℤ, Bool, true, false, cond, not, ◌==◌, List, length, refl, sym, ◌∙◌, subst}
+use Rattle.std.proofs.Common.{◌≡◌, ℕ, ℤ, Bool, true, false, cond, not, subst}
 use Rattle.std.specs.Prelude.{Option, Some, None, IfSome, ◌+ℤ◌, pos}
 use Rattle.std.specs.FinMap.{get}
 use Rattle.vfs_tree.specs.Layers.{is_dir, is_file, target_of}
-use Rattle.vfs_tree.specs.Place.{Seen}
 use Rattle.vfs_tree.specs.Sound.{IsSoundPlace, IsSound}
 use Rattle.vfs_tree.specs.Steps.{◌>>◌}
 use Rattle.vfs_tree.specs.Views.{facts_of}
@@ -31,7 +30,7 @@ use Rattle.call_laws.specs.Quiet.{IsQuiet}
 use Rattle.call_laws.proofs.DataParts.{keeps-descriptor, keeps-check_read, keeps-offset_of}
 use Rattle.call_laws.proofs.NeedLaws.{FreeFound, free-found, free-visible}
 use Rattle.call_laws.proofs.NameParts.{keeps-stat_of, keeps-link_text}
-use Rattle.call_laws.proofs.Parts.{Keeps, Any, MakesNode, found_so, refused, needed, weaker, then, unless, keeps-lifted, keeps-place_at, keeps-check_way}
+use Rattle.call_laws.proofs.Parts.{Keeps, Any, MakesNode, found_so, needed, weaker, then, unless, keeps-lifted, keeps-place_at, keeps-check_way}
 use Rattle.call_laws.proofs.SoundLaws.{sound-open, sound-closed, sound-cwd}
 
 -- whatever is needed

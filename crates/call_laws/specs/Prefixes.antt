@@ -1,5 +1,5 @@
 -- The beginnings of histories.
-use Rattle.std.specs.Prelude.{ℕ, List, [], ◌∷◌}
+use Rattle.std.specs.Prelude.{List, [], ◌∷◌}
 use Rattle.std.specs.FinMap.{insert}
 use Rattle.call_model.specs.Legal.{Pending}
 use Rattle.call_model.specs.declared.entry.Entry.{Entry}

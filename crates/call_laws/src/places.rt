@@ -7,10 +7,12 @@ ghost use Rattle.vfs_tree.specs.declared.limits.Limits.{Limits};
 ghost use Rattle.vfs_tree.specs.declared.walk.Found.TheVariants as found;
 ghost use Rattle.vfs_tree.specs.declared.walk.Leaf.TheVariants as leaf;
 ghost use Rattle.vfs_tree.specs.declared.world.World.{World};
+ghost use Rattle.call_model.specs.Effects.{doomed};
 ghost use Rattle.call_model.specs.Legal.{after};
 ghost use Rattle.call_model.specs.Rows.{found_at, way};
 ghost use Rattle.call_model.specs.declared.call.Call.TheVariants as call;
 ghost use Rattle.call_model.specs.declared.entry.Entry.TheVariants as entry;
+ghost use Rattle.call_model.specs.declared.entry.Ref.{Ref};
 ghost use Rattle.call_model.specs.declared.reply.Reply.{Reply};
 ghost use Rattle.call_laws.specs.Lasting.{IsLasting, IsUncut};
 
@@ -23,6 +25,8 @@ pub fn a_path_finds_a_sound_place()
         → found_at w c (way leaf.Follow text) ≡ found.At p → IsUncut (facts_of w) p }
     // What this rests on holds at the start.
     ensures start { (limits : Limits) → IsLasting (start_world limits) }
+    // It holds after a doom.
+    ensures doom { (w : World) (at : Ref) → IsLasting w → IsLasting (doomed w at) }
 {}
 
 /// A caller that changes its current directory leaves a sound world: a law of the model, with no code.

@@ -1,5 +1,5 @@
 -- The part of a world that anything can still lead to.
-use Rattle.std.specs.Prelude.{ℕ, Bool, true, false, not, ◌&&◌, ◌||◌, List, [], ◌∷◌, map, Option, Some, None}
+use Rattle.std.specs.Prelude.{ℕ, Bool, not, ◌&&◌, ◌||◌, List, [], ◌∷◌, map, Option, Some, None}
 use Rattle.std.specs.List.{list_any}
 use Rattle.std.specs.FinMap.{contains_key, entries, from_entries, retain_keys, values}
 use Rattle.vfs_tree.specs.Place.{Seen, Mem}

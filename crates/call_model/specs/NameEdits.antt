@@ -1,15 +1,15 @@
 -- The edits of names and mounts that the entries of a history make, and what they do to what walks read.
-use Rattle.std.specs.Prelude.{ℕ, zero, suc, ◌+◌, Bool, true, false, not, ◌&&◌, ◌||◌, ◌==◌, if◌then◌else◌, List, [], ◌∷◌, ◌++◌, Option, Some, None, option_map, option_and_then}
+use Rattle.std.specs.Prelude.{ℕ, zero, suc, ◌+◌, Bool, true, false, ◌&&◌, ◌||◌, ◌==◌, if◌then◌else◌, List, [], ◌∷◌, ◌++◌, Option, Some, None, option_map, option_and_then}
 use Rattle.std.specs.List.{list_any}
 use Rattle.std.specs.Str.{bytes_eq}
 use Rattle.std.specs.FinMap.{get}
-use Rattle.vfs_tree.specs.Place.{Seen, Mem, Null, UnionUp, UnionLow}
+use Rattle.vfs_tree.specs.Place.{Seen, Mem, Null}
 use Rattle.vfs_tree.specs.Facts.{Facts}
 use Rattle.vfs_tree.specs.Layers.{base, is_dir, is_opaque, target_of}
 use Rattle.vfs_tree.specs.Carriers.{is_in_union}
-use Rattle.vfs_tree.specs.Child.{child_of, child_below, low, steps}
+use Rattle.vfs_tree.specs.Child.{child_of, child_below, low}
 use Rattle.vfs_tree.specs.Mounts.{layers_at, is_on}
-use Rattle.vfs_tree.specs.Nodes.{entry_at, is_white, next_of}
+use Rattle.vfs_tree.specs.Nodes.{entry_at, next_of}
 use Rattle.vfs_tree.specs.Views.{facts_of}
 use Rattle.vfs_tree.specs.declared.mount.Mount.{Mount}
 use Rattle.vfs_tree.specs.declared.mount.MountKind.{MountKind}

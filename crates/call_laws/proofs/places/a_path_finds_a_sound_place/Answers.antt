@@ -1,4 +1,4 @@
-use Rattle.call_laws.proofs.PlaceLaws.{sound_at, uncut_at, lasting-start}
+use Rattle.call_laws.proofs.PlaceLaws.{sound_at, uncut_at, lasting-start, lasting-doom}
 use Rattle.call_laws.proofs.places.a_path_finds_a_sound_place.Goals as goal
 
 pub returns-clause-sound : goal.returns-clause-sound
@@ -9,3 +9,6 @@ returns-clause-uncut c = uncut_at
 
 pub returns-clause-start : goal.returns-clause-start
 returns-clause-start c = lasting-start
+
+pub returns-clause-doom : goal.returns-clause-doom
+returns-clause-doom c = lasting-doom
