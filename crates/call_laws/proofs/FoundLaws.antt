@@ -205,7 +205,7 @@ module _ (f : Facts) (view : IsGoodView f) where
   good-within (suc k) (UnionUp m u) n h =
       let look = child_within k f in
       good-entry m u n (kind_in f m) refl (upper_entry f (kind_in f m) u n) refl h.sound.mounts h.uncut (child_below look (low_by f look u (kind_in f m)))
-          (good-below look (good-within k) (low_by f look u (kind_in f m)) (good-low_by look (good-within k) m u (kind_in f m) refl h.uncut) n)
+      (good-below look (good-within k) (low_by f look u (kind_in f m)) (good-low_by look (good-within k) m u (kind_in f m) refl h.uncut) n)
   good-within (suc k) (UnionLow m u a p) n h = tt
 
   pub good-child : (d : Seen) (n : List ℕ) → IsGood f d → GoodChild (child_of f d n)
@@ -224,14 +224,14 @@ module _ (f : Facts) (view : IsGoodView f) where
   good_parent : (d : Seen) → IsGood f d → IsGood f (parent_in f d)
   good_parent (Mem m i) h =
       good_unless (is_root f (Mem m i)) (Mem m i) (Mem m (parent_ino f m i)) h
-          (good_mem f m (parent_ino f m i) h.sound.mounts h.uncut (parent_there m i (f.dir m i) (view.parents m i) h.sound.base))
+      (good_mem f m (parent_ino f m i) h.sound.mounts h.uncut (parent_there m i (f.dir m i) (view.parents m i) h.sound.base))
   good_parent (Null m p) h =
       good_unless (is_root f (Null m p)) (Null m p) (Null m (parent_in f p)) h
-          (good_null f m (parent_in f p) (first_of (is_null (kind_in f m)) (names_mounts f p) h.sound.mounts) h.uncut.0 (good_parent p (under_null f m p h)))
+      (good_null f m (parent_in f p) (first_of (is_null (kind_in f m)) (names_mounts f p) h.sound.mounts) h.uncut.0 (good_parent p (under_null f m p h)))
   good_parent (UnionUp m i) h =
       let s = store_by (kind_in f m) in
       good_unless (is_root f (UnionUp m i)) (UnionUp m i) (UnionUp m (parent_ino f s i)) h
-          (good_up f m (parent_ino f s i) h.sound.mounts h.uncut (parent_there s i (f.dir s i) (view.parents s i) h.sound.base))
+      (good_up f m (parent_ino f s i) h.sound.mounts h.uncut (parent_there s i (f.dir s i) (view.parents s i) h.sound.base))
   good_parent (UnionLow m u n p) h = h
 
   leave_good : (on : Seen → Seen) → ((p : Seen) → IsGood f p → IsGood f (on p)) → (d : Seen) → IsGood f d → (b : Bool) (o : Option Seen) → on_of f (mount_of d) ≡ o → IsGood f (leave_case on d b o)
@@ -312,10 +312,10 @@ module _ (f : Facts) (view : IsGoodView f) where
       on_with (check_dir f d >> entered f Follow rest d) (along f Follow jump rest) (after_check (check_dir f d) (entered f Follow rest d) (good_entered rest d h)) (good_along jump j rest)
   good_along jump j (DotDot ∷ rest) d h =
       on_with (check_dir f d >> entered f Follow rest (above f d)) (along f Follow jump rest)
-          (after_check (check_dir f d) (entered f Follow rest (above f d)) (good_entered rest (above f d) (good_above d h))) (good_along jump j rest)
+      (after_check (check_dir f d) (entered f Follow rest (above f d)) (good_entered rest (above f d) (good_above d h))) (good_along jump j rest)
   good_along jump j (Name n ∷ rest) d h =
       on_whatever (check_dir f d) (λ _. pass_child f Follow (λ text. jump text rest d) rest (along f Follow jump rest) d n (child_of f d n))
-          (λ _. good_pass_child (λ text. jump text rest d) (λ text. j text rest d h) rest (along f Follow jump rest) (good_along jump j rest) d n (child_of f d n) (good-child d n h))
+      (λ _. good_pass_child (λ text. jump text rest d) (λ text. j text rest d h) rest (along f Follow jump rest) (good_along jump j rest) d n (child_of f d n) (good-child d n h))
 
   good_begin : (path : Path) (d : Walked Seen) → GoodStep d → GoodStep (begin f Follow path d)
   good_begin path d h = by path.absolute

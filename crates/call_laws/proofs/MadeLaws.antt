@@ -138,7 +138,7 @@ module _ (t : Store) (u : ℕ) (n : List ℕ) (node : Node) (parent : ℕ) (opaq
   node_case : (d : ℕ) (P : Option Node → Type 0) → (d ≡ u → P (Some over)) → (d ≡ t.next → P (Some node)) → P (get t.nodes d) → P (get new.nodes d)
   node_case d P here there else =
       subst (λ (m : FinMap nat_cmp Node). P (get m d)) (sym nodes)
-          (by_key nat_cmp_total exact_unsigned (insert t.nodes t.next node) u over d P here (by_key nat_cmp_total exact_unsigned t.nodes t.next node d P there else))
+      (by_key nat_cmp_total exact_unsigned (insert t.nodes t.next node) u over d P here (by_key nat_cmp_total exact_unsigned t.nodes t.next node d P there else))
 
   node_new : get new.nodes t.next ≡ Some node
   node_new =
@@ -155,10 +155,10 @@ module _ (t : Store) (u : ℕ) (n : List ℕ) (node : Node) (parent : ℕ) (opaq
   entry_stays : (d : ℕ) (m : List ℕ) (j : ℕ) → entry_of t d m ≡ Some (Ino j) → entry_of new d m ≡ Some (Ino j)
   entry_stays d m j e =
       node_case d (λ o. entry_in m o ≡ Some (Ino j))
-          (λ same. let own : get names m ≡ Some (Ino j) = sym (ap (entry_in m) (ap (get t.nodes) same ∙ at)) ∙ e in
-              by_key nat_list_cmp_total exact_bytes names n (Ino t.next) m (λ o. o ≡ Some (Ino j)) (λ is. no_way (sym free ∙ ap is_given (sym (ap (get names) is) ∙ own))) own)
-          (λ same. none_some (ap (entry_in m) (ap (get t.nodes) same ∙ unused)) e)
-          e
+      (λ same. let own : get names m ≡ Some (Ino j) = sym (ap (entry_in m) (ap (get t.nodes) same ∙ at)) ∙ e in
+      by_key nat_list_cmp_total exact_bytes names n (Ino t.next) m (λ o. o ≡ Some (Ino j)) (λ is. no_way (sym free ∙ ap is_given (sym (ap (get names) is) ∙ own))) own)
+      (λ same. none_some (ap (entry_in m) (ap (get t.nodes) same ∙ unused)) e)
+      e
 
   abbrev IsNew : ℕ → List ℕ → ℕ → Type 0
   IsNew d m j = (d ≡ u) × (m ≡ n) × (j ≡ t.next)
@@ -166,27 +166,27 @@ module _ (t : Store) (u : ℕ) (n : List ℕ) (node : Node) (parent : ℕ) (opaq
   entry_back : (d : ℕ) (m : List ℕ) (j : ℕ) → entry_of new d m ≡ Some (Ino j) → IsNew d m j ⊎ (entry_of t d m ≡ Some (Ino j))
   entry_back d m j =
       node_case d (λ o. entry_in m o ≡ Some (Ino j) → IsNew d m j ⊎ (entry_of t d m ≡ Some (Ino j)))
-          (λ same. by_key nat_list_cmp_total exact_bytes names n (Ino t.next) m (λ o. o ≡ Some (Ino j) → IsNew d m j ⊎ (entry_of t d m ≡ Some (Ino j)))
-              (λ is e. inl (same, is, sym (ap inode_of e)))
-              (λ e. inr (ap (entry_in m) (ap (get t.nodes) same ∙ at) ∙ e)))
-          (λ same e. none_some (fresh_names u node fresh m) e)
-          (λ e. inr e)
+      (λ same. by_key nat_list_cmp_total exact_bytes names n (Ino t.next) m (λ o. o ≡ Some (Ino j) → IsNew d m j ⊎ (entry_of t d m ≡ Some (Ino j)))
+      (λ is e. inl (same, is, sym (ap inode_of e)))
+      (λ e. inr (ap (entry_in m) (ap (get t.nodes) same ∙ at) ∙ e)))
+      (λ same e. none_some (fresh_names u node fresh m) e)
+      (λ e. inr e)
 
   -- ---- kinds
 
   pub kind_stays : (i : ℕ) (k : Kind) → kind_at t i ≡ Some k → kind_at new i ≡ Some k
   kind_stays i k e =
       node_case i (λ o. option_map kind_of_node o ≡ Some k)
-          (λ same. sym (ap (option_map kind_of_node) (ap (get t.nodes) same ∙ at)) ∙ e)
-          (λ same. none_some (ap (option_map kind_of_node) (ap (get t.nodes) same ∙ unused)) e)
-          e
+      (λ same. sym (ap (option_map kind_of_node) (ap (get t.nodes) same ∙ at)) ∙ e)
+      (λ same. none_some (ap (option_map kind_of_node) (ap (get t.nodes) same ∙ unused)) e)
+      e
 
   kind_back : (i : ℕ) (k : Kind) → kind_at new i ≡ Some k → (i ≡ t.next) ⊎ (kind_at t i ≡ Some k)
   kind_back i k =
       node_case i (λ o. option_map kind_of_node o ≡ Some k → (i ≡ t.next) ⊎ (kind_at t i ≡ Some k))
-          (λ same e. inr (ap (option_map kind_of_node) (ap (get t.nodes) same ∙ at) ∙ e))
-          (λ same e. inl same)
-          (λ e. inr e)
+      (λ same e. inr (ap (option_map kind_of_node) (ap (get t.nodes) same ∙ at) ∙ e))
+      (λ same e. inl same)
+      (λ e. inr e)
 
   -- no name of the old store gives the new node
   dangling : {A : Type 0} (d j : ℕ) (m : List ℕ) → entry_of t d m ≡ Some (Ino j) → j ≡ t.next → A
@@ -204,17 +204,17 @@ module _ (t : Store) (u : ℕ) (n : List ℕ) (node : Node) (parent : ℕ) (opaq
   linked_back i h = elim (linked_way new i h) [
     | inl root ↦ inr (linked_root t i root)
     | inr named ↦ let x = named_from new i named in elim (entry_back x.dir x.name i x.entry) as (λ _. (i ≡ t.next) ⊎ (is_linked_in t i ≡ true)) [
-        | inl e ↦ inl e.2
-        | inr e ↦ inr (linked_named t i (named_to t i x.dir x.name e))
-      ]
+      | inl e ↦ inl e.2
+      | inr e ↦ inr (linked_named t i (named_to t i x.dir x.name e))
+    ]
   ]
 
   parent_stays : (d : ℕ) → (parent_by d (dir_in new d) ≡ parent_by d (dir_in t d)) ⊎ (d ≡ t.next)
   parent_stays d =
       node_case d (λ o. (parent_by d (option_and_then (facts_in new d) o) ≡ parent_by d (dir_in t d)) ⊎ (d ≡ t.next))
-          (λ same. inl (sym (ap (λ o. parent_by d (option_and_then (facts_in t d) o)) (ap (get t.nodes) same ∙ at))))
-          (λ same. inr same)
-          (inl (same_parent new t d (get t.nodes d)))
+      (λ same. inl (sym (ap (λ o. parent_by d (option_and_then (facts_in t d) o)) (ap (get t.nodes) same ∙ at))))
+      (λ same. inr same)
+      (inl (same_parent new t d (get t.nodes d)))
 
   -- the new directory lies in the one whose name gives it
   parent_new : (i : ℕ) → i ≡ t.next → kind_at new i ≡ Some kind.Dir → parent_by i (dir_in new i) ≡ u
@@ -241,9 +241,9 @@ module _ (t : Store) (u : ℕ) (n : List ℕ) (node : Node) (parent : ℕ) (opaq
         | inl is ↦ let up = led u (ap (option_map kind_of_node) at) linked in
             record { steps = suc up.steps; root = ap (climb up.steps (dir_in new)) (parent_new i is dir) ∙ up.root }
         | inr old ↦ elim (linked_back i (linked_is new i (get new.nodes i) h)) as (λ _. LeadsUp (dir_in new) i) [
-            | inl is ↦ none_some (ap (option_map kind_of_node) (ap (get t.nodes) is ∙ unused)) old
-            | inr l ↦ led i old l
-          ]
+          | inl is ↦ none_some (ap (option_map kind_of_node) (ap (get t.nodes) is ∙ unused)) old
+          | inr l ↦ led i old l
+        ]
       ]
 
   -- ---- directories that aren't linked
@@ -256,9 +256,9 @@ module _ (t : Store) (u : ℕ) (n : List ℕ) (node : Node) (parent : ℕ) (opaq
   removed : (d : ℕ) (m : List ℕ) → linked_by (dir_in new d) ≡ false → entry_of new d m ≡ None
   removed d m =
       node_case d (λ o. linked_by (option_and_then (facts_in new d) o) ≡ false → entry_in m o ≡ None)
-          (λ same h. no_way (sym h ∙ ap (is_linked_in new) same ∙ linked_stays u linked))
-          (λ same h. fresh_names u node fresh m)
-          (removed_before d m (linked_by (dir_in t d)) refl)
+      (λ same h. no_way (sym h ∙ ap (is_linked_in new) same ∙ linked_stays u linked))
+      (λ same h. fresh_names u node fresh m)
+      (removed_before d m (linked_by (dir_in t d)) refl)
 
   -- ---- what names give
 
@@ -275,18 +275,18 @@ module _ (t : Store) (u : ℕ) (n : List ℕ) (node : Node) (parent : ℕ) (opaq
   its_parent d j m e dir other = elim (entry_back d m j e) as (λ _. d ≡ parent_by j (dir_in new j)) [
     | inl x ↦ x.0 ∙ sym (parent_new j x.2 dir)
     | inr old ↦ elim (parent_stays j) as (λ _. d ≡ parent_by j (dir_in new j)) [
-        | inl same ↦ (sound.once d j m old (old_dir d j m old dir) other).0 ∙ sym same
-        | inr is ↦ dangling d j m old is
-      ]
+      | inl same ↦ (sound.once d j m old (old_dir d j m old dir) other).0 ∙ sym same
+      | inr is ↦ dangling d j m old is
+    ]
   ]
 
   its_name : (d j : ℕ) (m k : List ℕ) → entry_of new d m ≡ Some (Ino j) → entry_of new d k ≡ Some (Ino j) → kind_at new j ≡ Some kind.Dir → (j == 1) ≡ false → k ≡ m
   its_name d j m k e f dir other = elim (entry_back d m j e) as (λ _. k ≡ m) [
     | inl x ↦ elim (entry_back d k j f) as (λ _. k ≡ m) [ inl y ↦ y.1 ∙ sym x.1 | inr old ↦ dangling d j k old x.2 ]
     | inr old ↦ elim (entry_back d k j f) as (λ _. k ≡ m) [
-        | inl y ↦ dangling d j m old y.2
-        | inr also ↦ ap name_or (sym (sound.once d j k also (old_dir d j k also dir) other).1 ∙ (sound.once d j m old (old_dir d j m old dir) other).1)
-      ]
+      | inl y ↦ dangling d j m old y.2
+      | inr also ↦ ap name_or (sym (sound.once d j k also (old_dir d j k also dir) other).1 ∙ (sound.once d j m old (old_dir d j m old dir) other).1)
+    ]
   ]
 
   once : (d j : ℕ) (m : List ℕ) → entry_of new d m ≡ Some (Ino j) → kind_at new j ≡ Some kind.Dir → (j == 1) ≡ false → (d ≡ parent_by j (dir_in new j)) × (dir_name new j ≡ Some m)

@@ -79,12 +79,15 @@ if_left (Some m) P isnt h = isnt h
 if_left None P isnt h = tt
 
 pub left_plain : (w : World) (c : ℕ) (call : Call) → (IsLeaver (Some call) → ⊥) → (x : World × Reply) → Ends w x → Left w c call x
-left_plain w c call isnt x h = (record {
-  answered = done_so x.1 h.1;
-  live = h.0.most;
-  others = λ d apart. ap (λ m. get m d) h.0.leaving;
-  own = λ leaver. ap (λ m. get m c) h.0.leaving ∙ none_left (get w.leaving c) (if_left (get w.leaving c) (IsLeaver (Some call)) isnt leaver);
-}, record { flags = h.0.flags; done = h.1 })
+left_plain w c call isnt x h = (
+  record {
+    answered = done_so x.1 h.1;
+    live = h.0.most;
+    others = λ d apart. ap (λ m. get m d) h.0.leaving;
+    own = λ leaver. ap (λ m. get m c) h.0.leaving ∙ none_left (get w.leaving c) (if_left (get w.leaving c) (IsLeaver (Some call)) isnt leaver);
+  },
+  record { flags = h.0.flags; done = h.1 },
+)
 
 -- ---- new mounts
 
@@ -132,13 +135,15 @@ others_left m c d apart = get-remove nat_cmp_total m c d ∙ ap (λ b. cond b No
 left_force : (w : World) (c m : ℕ) (p : List ℕ) → Left w c (call.UmountForce p) (rows.left w c m, reply.Done)
 left_force w c m p =
     let new : World = rows.left w c m in
-    let same : live new ≡ live w = refl in
-    (record {
-      answered = refl;
-      live = omega arith;
-      others = λ d apart. others_left w.leaving c d apart;
-      own = λ _. get_at-remove nat_cmp_total w.leaving c;
-    }, record { flags = no_flag w new refl refl; done = refl })
+    let same : live new ≡ live w = refl in (
+      record {
+        answered = refl;
+        live = omega arith;
+        others = λ d apart. others_left w.leaving c d apart;
+        own = λ _. get_at-remove nat_cmp_total w.leaving c;
+      },
+      record { flags = no_flag w new refl refl; done = refl },
+    )
 
 keeps-doom_next : (w : World) (c m : ℕ) (p : List ℕ) → IsSome (get w.leaving c) → (o : Option Ref) → IfSome o (IsLive w)
     → Keeps (Left w c (call.UmountForce p)) (Needed w c (call.UmountForce p)) (rows.doom_next w c m o)

@@ -101,8 +101,8 @@ free-entry f look free m u n s upper lower is (Some (Ino i)) at b link = tt
 free-entry f look free m u n s upper lower is (Some White) at b link = tt
 free-entry f look free m u n s upper lower is None at true link =
     free-lower f m u n (child_below look (low_within steps f look s upper lower u) n)
-        (free-below f look free (low_within steps f look s upper lower u) (free-low_within steps f look free s upper lower u) n)
-        (record { linked = ap (λ k. is_linked f (store_by k) u) is ∙ link; free = ap (λ k. f.entry (store_by k) u n) is ∙ at })
+    (free-below f look free (low_within steps f look s upper lower u) (free-low_within steps f look free s upper lower u) n)
+    (record { linked = ap (λ k. is_linked f (store_by k) u) is ∙ link; free = ap (λ k. f.entry (store_by k) u n) is ∙ at })
 free-entry f look free m u n s upper lower is None at false link = tt
 
 free-union : (f : Facts) (look : Lookup) → FreeLook f look → (m u : ℕ) (n : List ℕ) (k : Option MountKind) → kind_in f m ≡ k
@@ -217,13 +217,13 @@ free-along : (f : Facts) (l : Leaf) (jump : Jump) → FreeJump f jump → (parts
 free-along f l jump j [] d = tt
 free-along f l jump j (Dot ∷ rest) d =
     then_walk f (check_dir f d >> entered f l rest d) (along f l jump rest)
-        (then_any f (check_dir f d) (λ _. entered f l rest d) (free-check_dir f d) (λ _. free-entered f l rest d)) (free-along f l jump j rest)
+    (then_any f (check_dir f d) (λ _. entered f l rest d) (free-check_dir f d) (λ _. free-entered f l rest d)) (free-along f l jump j rest)
 free-along f l jump j (DotDot ∷ rest) d =
     then_walk f (check_dir f d >> entered f l rest (above f d)) (along f l jump rest)
-        (then_any f (check_dir f d) (λ _. entered f l rest (above f d)) (free-check_dir f d) (λ _. free-entered f l rest (above f d))) (free-along f l jump j rest)
+    (then_any f (check_dir f d) (λ _. entered f l rest (above f d)) (free-check_dir f d) (λ _. free-entered f l rest (above f d))) (free-along f l jump j rest)
 free-along f l jump j (Name n ∷ rest) d =
     then_walk f (check_dir f d) (λ _. pass_child f l (λ text. jump text rest d) rest (along f l jump rest) d n (child_of f d n)) (free-check_dir f d)
-        (λ _. free-pass_child f l (λ text. jump text rest d) (λ text. j text rest d) rest (along f l jump rest) (free-along f l jump j rest) d n (child_of f d n) (free-child f d n))
+    (λ _. free-pass_child f l (λ text. jump text rest d) (λ text. j text rest d) rest (along f l jump rest) (free-along f l jump j rest) d n (child_of f d n) (free-child f d n))
 
 free-choice : (f : Facts) (b : Bool) (x y : Walked Seen) → Free f x → Free f y → Free f (cond b x y)
 free-choice f true x y p q = p
@@ -242,7 +242,7 @@ free-jump : (k : ℕ) (f : Facts) (l : Leaf) → FreeJump f (jump_within k f l)
 free-jump zero f l text rest d = tt
 free-jump (suc k) f l text rest d =
     then_walk f (parse text) (λ path. jump_along f l (jump_within k f l) (spliced path rest) d) (free-parse f text)
-        (λ path. free-jump_along f l (jump_within k f l) (free-jump k f l) (spliced path rest) d)
+    (λ path. free-jump_along f l (jump_within k f l) (free-jump k f l) (spliced path rest) d)
 
 free-walk_from : (f : Facts) (l : Leaf) (parts : List Component) (d : Seen) → FreeWalk f (walk_from f l parts d)
 free-walk_from f l parts d = free-along f l (jump_within 32 f l) (free-jump 32 f l) parts d
@@ -316,7 +316,7 @@ free-visible_within (suc k) w (Mem m i) = tt
 free-visible_within (suc k) w (Null m p) = free-visible_within k w p
 free-visible_within (suc k) w (UnionUp m u) =
     then_any (facts_of w) (listed_below (visible_within k w) (low (facts_of w) m u)) _
-        (free-listed_below w (visible_within k w) (free-visible_within k w) (low (facts_of w) m u) (free-low (facts_of w) m u)) (λ _. tt)
+    (free-listed_below w (visible_within k w) (free-visible_within k w) (low (facts_of w) m u) (free-low (facts_of w) m u)) (λ _. tt)
 free-visible_within (suc k) w (UnionLow m u n p) = tt
 
 pub free-visible : (w : World) (d : Seen) → Free (facts_of w) (visible w d)

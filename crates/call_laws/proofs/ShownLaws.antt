@@ -78,10 +78,10 @@ agree-low_by f look show h u None = refl
 agree-lower : (f : Facts) (m u : ℕ) (n : List ℕ) (a b : Child) → Agree a b → Agree (child_low f m u n a) (shown_low f m u n b)
 agree-lower f m u n (child.At q) b e =
     subst (λ x. Agree (child_low f m u n (child.At q)) (shown_low f m u n x)) (sym e)
-        (elim (is_dir f q) as (λ d. Agree (cond d (child.Need (record { mount = m; dir = u; name = n })) (child.At (UnionLow m u n q))) (cond d (child.At q) (child.At (UnionLow m u n q)))) [
-          | true ↦ tt
-          | false ↦ refl
-        ])
+    (elim (is_dir f q) as (λ d. Agree (cond d (child.Need (record { mount = m; dir = u; name = n })) (child.At (UnionLow m u n q))) (cond d (child.At q) (child.At (UnionLow m u n q)))) [
+      | true ↦ tt
+      | false ↦ refl
+    ])
 agree-lower f m u n child.Absent b e = ap (shown_low f m u n) e
 agree-lower f m u n (child.Need x) b e = tt
 
@@ -101,7 +101,7 @@ agree-within (suc k) f (UnionUp m u) n =
     let low = low_by f look u (kind_in f m) in
     let under = low_by f show u (kind_in f m) in
     agree-union f m u n (upper_entry f (kind_in f m) u n) (child_below look low) (child_below show under)
-        (agree-below look show (agree-within k f) low under (agree-low_by f look show (agree-within k f) u (kind_in f m)) n)
+    (agree-below look show (agree-within k f) low under (agree-low_by f look show (agree-within k f) u (kind_in f m)) n)
 agree-within (suc k) f (UnionLow m u a p) n = refl
 
 -- what stands at a name of a directory is shown there

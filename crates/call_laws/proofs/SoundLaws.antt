@@ -51,14 +51,14 @@ module _ (limits : Limits) where
   no_entry : (s d : ℕ) (n : List ℕ) → entry_at w s d n ≡ None
   no_entry s d n =
       only 0 empty_store s (λ o. entry_in n (option_and_then (λ (t : Store). get t.nodes d) o) ≡ None)
-          (λ _. only 1 (empty_dir 1) d (λ o. entry_in n o ≡ None) (λ _. get-empty {X = NameEntry} name_cmp n) refl) refl
+      (λ _. only 1 (empty_dir 1) d (λ o. entry_in n o ≡ None) (λ _. get-empty {X = NameEntry} name_cmp n) refl) refl
 
   start_lead : (s i : ℕ) → linked_by (f.dir s i) ≡ true → LeadsUp (f.dir s) i
   start_lead s i =
       only 0 empty_store s (λ o. linked_by (option_and_then (λ t. dir_in t i) o) ≡ true → LeadsUp (f.dir s) i)
-          (λ _. only 1 (empty_dir 1) i (λ o. linked_by (option_and_then (facts_in empty_store i) o) ≡ true → LeadsUp (f.dir s) i)
-              (λ root _. record { steps = 0; root = root }) (λ e. absurd (let clash : false ≡ true = e in cc)))
-          (λ e. absurd (let clash : false ≡ true = e in cc))
+      (λ _. only 1 (empty_dir 1) i (λ o. linked_by (option_and_then (facts_in empty_store i) o) ≡ true → LeadsUp (f.dir s) i)
+      (λ root _. record { steps = 0; root = root }) (λ e. absurd (let clash : false ≡ true = e in cc)))
+      (λ e. absurd (let clash : false ≡ true = e in cc))
 
   start_names : (s : ℕ) → AreSoundNames (f.entry s) (f.kind s) (f.dir s) (f.name_of s)
   start_names s = record {
@@ -149,6 +149,7 @@ any_put R test k v (e ∷ es) none h =
     behind : (a b : Bool) → b ≡ true → (a || b) ≡ true
     behind true b e = refl
     behind false b e = e
+
     deeper : (a b c : Bool) → (b ≡ true → c ≡ true) → (a || b) ≡ true → (a || c) ≡ true
     deeper true b c g e = refl
     deeper false b c g e = g e
@@ -170,7 +171,7 @@ covered_before leaving c m cut on number none p (Some t) e =
     let new = insert leaving c m in
     let same : covers new p t ≡ true = sym (ap (λ x. is_on x p && not (is_left new (cut t).number)) (on t) ∙ ap (λ x. is_on t.on p && not (is_left new x)) (number t)) ∙ e in
     both_of (is_on t.on p) (not (is_left leaving t.number)) (first_of (is_on t.on p) (not (is_left new t.number)) same)
-        (not_then (is_left leaving t.number) (is_left new t.number) (left_still leaving c m t.number none) (second_of (is_on t.on p) (not (is_left new t.number)) same))
+    (not_then (is_left leaving t.number) (is_left new t.number) (left_still leaving c m t.number none) (second_of (is_on t.on p) (not (is_left new t.number)) same))
 covered_before leaving c m cut on number none p None e = e
 
 module _ (w : World) (c m : ℕ) (none : get w.leaving c ≡ None) (h : IsSound w) where
@@ -199,7 +200,7 @@ module _ (w : World) (c m : ℕ) (none : get w.leaving c ≡ None) (h : IsSound 
   before : (p : Seen) (n : ℕ) → is_on_place new p n ≡ true → is_on_place w p n ≡ true
   before p n e =
       covered_before w.leaving c m (cut_with w.mounts m) (λ t. refl) (λ t. refl) none p (get w.mounts n)
-          (sym (ap (covers_by new.leaving p) (get_each nat_cmp_total (cut_with w.mounts m) w.mounts n)) ∙ e)
+      (sym (ap (covers_by new.leaving p) (get_each nat_cmp_total (cut_with w.mounts m) w.mounts n)) ∙ e)
 
   -- a detachment by a caller that is leaving no mount leaves a sound world
   pub sound-detach : IsSound (detached w c m)

@@ -85,14 +85,14 @@ module _ (w : World) (s u : ℕ) (n : List ℕ) (node : Node) (numbered : IsNumb
       let before : StoreNames t = subst NamesOf e (h.view.names s) in
       let store : Store = made t u n node in
       sound-stores w (insert w.stores s store) h
-          (λ r. by_key nat_cmp_total exact_unsigned w.stores s store r NamesOf (λ _. made_names t u n node d.parent d.opaque d.names below d.at (link_at t u (get t.nodes u) link) unused fresh before) (h.view.names r))
-          (record {
-            kinds = λ m k x. x;
-            nodes = λ r i k x. by_key nat_cmp_total exact_unsigned w.stores s store r (λ o. option_map kind_of_node (option_and_then (λ (t : Store). get t.nodes i) o) ≡ Some k)
-                (λ same. kind_stays t u n node d.parent d.opaque d.names below d.at (link_at t u (get t.nodes u) link) unused fresh before i k
-                    (sym (ap (λ o. option_map kind_of_node (option_and_then (λ (t : Store). get t.nodes i) o)) (ap (get w.stores) same ∙ e)) ∙ x))
-                x;
-          })
+      (λ r. by_key nat_cmp_total exact_unsigned w.stores s store r NamesOf (λ _. made_names t u n node d.parent d.opaque d.names below d.at (link_at t u (get t.nodes u) link) unused fresh before) (h.view.names r))
+      (record {
+        kinds = λ m k x. x;
+        nodes = λ r i k x. by_key nat_cmp_total exact_unsigned w.stores s store r (λ o. option_map kind_of_node (option_and_then (λ (t : Store). get t.nodes i) o) ≡ Some k)
+            (λ same. kind_stays t u n node d.parent d.opaque d.names below d.at (link_at t u (get t.nodes u) link) unused fresh before i k
+            (sym (ap (λ o. option_map kind_of_node (option_and_then (λ (t : Store). get t.nodes i) o)) (ap (get w.stores) same ∙ e)) ∙ x))
+            x;
+      })
 
   -- a node is made at a name of a linked directory that gives nothing
   pub sound-made : IsSound (with_made w s u n node)

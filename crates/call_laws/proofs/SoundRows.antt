@@ -150,7 +150,7 @@ either false w new p q = q
 sound-decide : (w : World) (c : ℕ) (call : Call) (r : Reply) → IsSound w → Keeps Leaves AnyNeed (decided w c call (first_found w c call) (second_found w c call)) → IsSound (after w (entry.Call c call r))
 sound-decide w c call r h k =
     either (is_no_memory r) w (world_after w (apply w c call)) h
-        (settled w (row w c call) h (then (check_way (first_way call) >> check_way (second_way call)) (ways call) (λ _ _. k)))
+    (settled w (row w c call) h (then (check_way (first_way call) >> check_way (second_way call)) (ways call) (λ _ _. k)))
 
 pub sound-by : (w : World) (c : ℕ) (call : Call) (r : Reply) → IsSound w → Keeps Leaves (MakesNode w) (decided w c call (first_found w c call) (second_found w c call)) → IsSound (after w (entry.Call c call r))
 sound-by w c call r h k = sound-decide w c call r h (free (decided w c call (first_found w c call) (second_found w c call)) k)

@@ -31,7 +31,5 @@ pub use revoking::{
     a_revoke_that_dooms_has_found_a_file, the_first_open_file_is_there,
 };
 pub use shown::walks_find_what_is_shown;
-pub use sound::{
-    a_quiet_call_keeps_worlds_sound, an_entry_keeps_worlds_sound, the_start_is_sound,
-};
+pub use sound::{a_quiet_call_keeps_worlds_sound, an_entry_keeps_worlds_sound, the_start_is_sound};
 pub use work::an_entry_uses_up_work;
