@@ -130,7 +130,7 @@ keeps-pread w c d n at =
 
 -- ---- write(2) and pwrite(2)
 
-keeps-check_write : (w : World) (o : Open) (bytes : List ℕ) → Keeps Any (MakesNode w) (rows.check_write o bytes)
+pub keeps-check_write : (w : World) (o : Open) (bytes : List ℕ) → Keeps Any (MakesNode w) (rows.check_write o bytes)
 keeps-check_write w o bytes = unless o.dead _ (λ _. unless (not o.mode.write) _ (λ _. check (nat_lt rows.most_moved (length bytes)) _))
 
 keeps-write_at : (w : World) (o : Open) (at : ℕ) (bytes : List ℕ) → Keeps (λ x. Alone w x.0) (MakesNode w) (rows.write_at w o at bytes)
@@ -172,7 +172,7 @@ keeps-lseek w c d h i =
 
 -- ---- truncate(2) and ftruncate(2)
 
-keeps-check_length : (w : World) (p : Seen) (n : ℕ) → Keeps Any (MakesNode w) (rows.check_length w p n)
+pub keeps-check_length : (w : World) (p : Seen) (n : ℕ) → Keeps Any (MakesNode w) (rows.check_length w p n)
 keeps-check_length w p n = unless (is_dir (facts_of w) p) _ (λ _. unless (nat_lt rows.most_bytes n) _ (λ _. keeps-copied w p))
 
 pub keeps-truncate : (w : World) (a : Found) (n : ℕ) → FreeFound (facts_of w) a → Keeps (Ends w) (MakesNode w) (rows.truncate w a n)
@@ -180,7 +180,7 @@ keeps-truncate w a n fa =
     then (place_at w a) (keeps-place_at w a fa) (λ p _.
     then (rows.check_length w p n) (keeps-check_length w p n) (λ _ _. found_so (plain-resize w p n, refl)))
 
-keeps-open_length : (w : World) (c d n : ℕ) → Keeps Any (MakesNode w) (rows.open_length w c d n)
+pub keeps-open_length : (w : World) (c d n : ℕ) → Keeps Any (MakesNode w) (rows.open_length w c d n)
 keeps-open_length w c d n =
     then (rows.descriptor w c d) (keeps-descriptor w c d) (λ o _.
     unless o.dead _ (λ _. unless (not o.mode.write) _ (λ _. unless (nat_lt rows.most_bytes n) _ (λ _. found_so tt))))

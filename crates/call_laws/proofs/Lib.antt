@@ -25,3 +25,4 @@ pub mod NeedLaws
 pub mod FoundLaws
 pub mod PlaceLaws
 pub mod ChdirLaws
+pub mod BytesLaws

@@ -1,8 +1,11 @@
 -- Calls that change no name, node or mount keep a world sound.
-use Rattle.std.proofs.Common.{◌≡◌, ℕ, ℤ, Bool, true, false, cond, not, subst}
-use Rattle.std.specs.Prelude.{Option, Some, None, IfSome, ◌+ℤ◌, pos}
+use Rattle.std.proofs.Common.{◌≡◌, ℕ, ℤ, Bool, true, false, cond, not, subst, ◌+◌, List, [], ◌∷◌, length, ap, ◌∙◌}
+use Rattle.std.specs.Prelude.{Option, Some, None, IfSome, ◌+ℤ◌, pos, nat_lt}
 use Rattle.std.specs.FinMap.{get}
-use Rattle.vfs_tree.specs.Layers.{is_dir, is_file, target_of}
+use Rattle.vfs_tree.specs.Bytes.{resize_bytes, write_bytes}
+use Rattle.vfs_tree.specs.FileEdits.{written}
+use Rattle.vfs_tree.specs.Layers.{base, is_dir, is_file, target_of}
+use Rattle.vfs_tree.specs.Place.{Seen}
 use Rattle.vfs_tree.specs.Sound.{IsSoundPlace, IsSound}
 use Rattle.vfs_tree.specs.Steps.{◌>>◌}
 use Rattle.vfs_tree.specs.Views.{facts_of}
@@ -27,9 +30,10 @@ use Rattle.call_model.specs.declared.entry.Inner.{Inner}
 use Rattle.call_model.specs.declared.entry.Ref.{Ref}
 use Rattle.call_model.specs.declared.reply.Reply.{Reply}
 use Rattle.call_laws.specs.Quiet.{IsQuiet}
-use Rattle.call_laws.proofs.DataParts.{keeps-descriptor, keeps-check_read, keeps-offset_of}
+use Rattle.call_laws.proofs.BytesLaws.{sound-bytes}
+use Rattle.call_laws.proofs.DataParts.{keeps-descriptor, keeps-check_read, keeps-check_write, keeps-check_length, keeps-open_length, keeps-offset_of}
 use Rattle.call_laws.proofs.NeedLaws.{FreeFound, free-found, free-visible}
-use Rattle.call_laws.proofs.NameParts.{keeps-stat_of, keeps-link_text}
+use Rattle.call_laws.proofs.NameParts.{alone-edit, keeps-stat_of, keeps-link_text}
 use Rattle.call_laws.proofs.Parts.{Keeps, Any, MakesNode, found_so, needed, weaker, then, unless, keeps-lifted, keeps-place_at, keeps-check_way}
 use Rattle.call_laws.proofs.SoundLaws.{sound-open, sound-closed, sound-cwd}
 
@@ -108,6 +112,50 @@ sound-readlink w a fa h =
 sound-statfs : (w : World) (a : Found) → FreeFound (facts_of w) a → IsSound w → Keeps Leaves (MakesNode w) (names.statfs w a)
 sound-statfs w a fa h = then (place_at w a) (keeps-place_at w a fa) (λ p _. found_so h)
 
+-- ---- contents
+
+sound-resize : (w : World) (p : Seen) (n : ℕ) → IsSound w → IsSound (rows.resize_at w p n)
+sound-resize w p n h = let b = base (facts_of w) p in sound-bytes w b.store b.ino (λ old. resize_bytes old n) h
+
+sound-truncate : (w : World) (a : Found) (n : ℕ) → FreeFound (facts_of w) a → IsSound w → Keeps Leaves (MakesNode w) (rows.truncate w a n)
+sound-truncate w a n fa h =
+    then (place_at w a) (keeps-place_at w a fa) (λ p _.
+    then (rows.check_length w p n) (keeps-check_length w p n) (λ _ _. found_so (sound-resize w p n h)))
+
+sound-ftruncate : (w : World) (c d n : ℕ) → IsSound w → Keeps Leaves (MakesNode w) (rows.ftruncate w c d n)
+sound-ftruncate w c d n h = then (rows.open_length w c d n) (keeps-open_length w c d n) (λ p _. found_so (sound-resize w p n h))
+
+-- a sound world with the same descriptors
+abbrev Written : World → World × ℕ → Type 0
+Written w x = IsSound x.0 × (x.0.opens ≡ w.opens)
+
+sound-write_at : (w : World) (o : Open) (at : ℕ) (bytes : List ℕ) → IsSound w → Keeps (Written w) (MakesNode w) (rows.write_at w o at bytes)
+sound-write_at w o at bytes h =
+    let b = base (facts_of w) o.place in
+    unless (nat_lt rows.most_bytes (at + length bytes)) _ (λ _.
+    found_so (sound-bytes w b.store b.ino (λ old. write_bytes old at bytes) h, (alone-edit w o.place (λ t i. written t i at bytes)).0))
+
+sound-write_some : (w : World) (c d : ℕ) (o : Open) → IsSound w → get w.opens (c, d) ≡ Some o → (bytes : List ℕ) → Keeps Leaves (MakesNode w) (rows.write_some w c d o bytes)
+sound-write_some w c d o h is [] = found_so h
+sound-write_some w c d o h is (b ∷ bs) =
+    then (rows.write_at w o (rows.write_to w o o.offset) (b ∷ bs)) (sound-write_at w o (rows.write_to w o o.offset) (b ∷ bs) h) (λ new k.
+    found_so (sound-offset new.0 c d new.1 o k.0 (ap (λ m. get m (c, d)) k.1 ∙ is)))
+
+sound-write : (w : World) (c d : ℕ) (bytes : List ℕ) → IsSound w → Keeps Leaves (MakesNode w) (rows.write w c d bytes)
+sound-write w c d bytes h =
+    then (rows.descriptor w c d) (keeps-descriptor w c d) (λ o is.
+    then (rows.check_write o bytes) (keeps-check_write w o bytes) (λ _ _. sound-write_some w c d o h is bytes))
+
+sound-pwrite_some : (w : World) (o : Open) (at : ℕ) → IsSound w → (bytes : List ℕ) → Keeps Leaves (MakesNode w) (rows.pwrite_some w o at bytes)
+sound-pwrite_some w o at h [] = found_so h
+sound-pwrite_some w o at h (b ∷ bs) =
+    then (rows.write_at w o (rows.write_to w o at) (b ∷ bs)) (sound-write_at w o (rows.write_to w o at) (b ∷ bs) h) (λ new k. found_so k.0)
+
+sound-pwrite : (w : World) (c d at : ℕ) (bytes : List ℕ) → IsSound w → Keeps Leaves (MakesNode w) (rows.pwrite w c d at bytes)
+sound-pwrite w c d at bytes h =
+    then (rows.descriptor w c d) (keeps-descriptor w c d) (λ o _.
+    then (rows.check_write o bytes) (keeps-check_write w o bytes) (λ _ _. sound-pwrite_some w o at h bytes))
+
 sound-revoke_next : (w : World) (o : Option Ref) → IsSound w → Keeps Leaves AnyNeed (mounts.revoke_next w o)
 sound-revoke_next w (Some at) h = needed tt
 sound-revoke_next w None h = found_so h
@@ -122,6 +170,10 @@ sound-decided w c (call.Close d) quiet h a b fa = free _ (sound-close w c d h)
 sound-decided w c (call.Read d n) quiet h a b fa = free _ (sound-read w c d n h)
 sound-decided w c (call.Pread d n o) quiet h a b fa = free _ (sound-pread w c d n o h)
 sound-decided w c (call.Lseek d x i) quiet h a b fa = free _ (sound-lseek w c d x i h)
+sound-decided w c (call.Write d bytes) quiet h a b fa = free _ (sound-write w c d bytes h)
+sound-decided w c (call.Pwrite d o bytes) quiet h a b fa = free _ (sound-pwrite w c d o bytes h)
+sound-decided w c (call.Truncate p n) quiet h a b fa = free _ (sound-truncate w a n fa h)
+sound-decided w c (call.Ftruncate d n) quiet h a b fa = free _ (sound-ftruncate w c d n h)
 sound-decided w c (call.Stat p) quiet h a b fa = free _ (sound-stat w a fa h)
 sound-decided w c (call.Lstat p) quiet h a b fa = free _ (sound-stat w a fa h)
 sound-decided w c (call.Fstat d) quiet h a b fa = free _ (sound-fstat w c d h)

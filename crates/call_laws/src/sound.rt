@@ -31,8 +31,8 @@ pub fn an_entry_keeps_worlds_sound()
         → row w c call ≡ Wants (Shadow m u n) → IsNumbered w → IsSound w → IsSound (shadowed w m u n) }
 {}
 
-/// A call that changes no name, node or mount, and opens nothing by a path, leaves a sound world: a law of the model,
-/// with no code.
+/// A call that changes no name and no mount, makes no node, and opens nothing by a path, leaves a sound world: a law of
+/// the model, with no code.
 pub fn a_quiet_call_keeps_worlds_sound()
     ensures { (w : World) (c : ℕ) (call : Call) (r : Reply)
         → IsQuiet call → IsSound w → IsSound (after w (entry.Call c call r)) }
