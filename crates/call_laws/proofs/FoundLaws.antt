@@ -3,8 +3,7 @@ use Rattle.std.proofs.Common.{◌≡◌, ℕ, zero, suc, Bool, true, false, cond
 use Rattle.std.specs.Prelude.{Option, Some, None, IsSome, IfSome, is_some, option_map, option_and_then}
 use Rattle.vfs_tree.specs.Child.{Lookup, child_mem, child_null, child_below, child_low, child_union, only_dir, below_named, low_case, low_within, low_by, upper_entry, child_within, child_of, steps}
 use Rattle.vfs_tree.specs.Facts.{Facts}
-use Rattle.vfs_tree.specs.Layers.{kind_in, store_by, base, is_dir, is_linked, is_opaque, is_root, is_cut, parent_ino, parent_by, parent_in, parent_unless, root_by, root_of, on_of, cut_by, target_of}
-use Rattle.vfs_tree.specs.Mounts.{covers, covering}
+use Rattle.vfs_tree.specs.Layers.{kind_in, store_by, is_dir, is_linked, is_opaque, is_root, is_cut, parent_ino, parent_by, parent_in, parent_unless, root_by, root_of, on_of, cut_by, target_of}
 use Rattle.vfs_tree.specs.Paths.{Path, parse}
 use Rattle.vfs_tree.specs.Place.{Seen, Mem, Null, UnionUp, UnionLow, mount_of}
 use Rattle.vfs_tree.specs.Sound.{is_mem, is_null, is_union, names_mounts, IsSoundPlace, IsSoundDir, EachLayer, EachPlace, IsSoundView}
