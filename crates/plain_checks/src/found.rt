@@ -7,8 +7,8 @@ use crate::stop::Stop;
 use call_model::{Inner, Target};
 use finite_maps::Duplicate;
 use std::alloc::{AllocError, Global};
-use vfs_paths::is_dir;
-use vfs_tree::{Errno, Found, MountKind, Name, Need, Place, View, World};
+use vfs_paths::{is_dir, upper_store};
+use vfs_tree::{Errno, Found, Name, Need, Place, View, World};
 
 /// Whether a store has no inode number left.
 fn is_full(world: &World, store: u32) -> bool
@@ -17,20 +17,6 @@ fn is_full(world: &World, store: u32) -> bool
     match world.stores.get(store) {
         Some(store) => store.next == 4294967295,
         None => true,
-    }
-}
-
-/// The mount number of the memory file system in which a union has its upper layer.
-fn upper_store(world: &World, mount: u32) -> u32
-    ensures { result ≡ checks.upper_store world.now mount }
-{
-    match world.mounts.get(mount) {
-        Some(mount) => match &mount.kind {
-            MountKind::Union { store, .. } => *store,
-            MountKind::Mem => 0,
-            MountKind::Null { .. } => 0,
-        },
-        None => 0,
     }
 }
 

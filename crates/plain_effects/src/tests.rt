@@ -2,12 +2,12 @@ ghost use Rattle.std.specs.Prelude.{◌≡◌, true, false, IfOk};
 ghost use Rattle.vfs_tree.specs.Nodes.{IsNumbered};
 ghost use Rattle.call_model.specs.Checks as checks;
 
-use crate::upper::upper_store;
 use crate::{doom, make_effect};
 use call_model::{Inner, Ref};
 use plain_checks::{Stop, make_at};
 use std::alloc::{AllocError, Global};
 use std::test::Fail;
+use vfs_paths::upper_store;
 use vfs_tree::{
     Bytes, Limits, Mode, Mount, MountKind, Name, NameEntry, NameFault, NameMap, Node, Open, Place,
     World,

@@ -8,21 +8,8 @@ ghost use Rattle.call_model.specs.Effects.{made_above};
 
 use plain_edits::make;
 use std::alloc::AllocError;
-use vfs_tree::{MountKind, Name, Node, Store, World};
-
-/// The mount number of the memory file system in which a union has its upper layer; 0 where the mount is no union.
-pub(crate) fn upper_store(world: &World, mount: u32) -> u32
-    ensures { result ≡ upper_store world.now mount }
-{
-    match world.mounts.get(mount) {
-        Some(found) => match &found.kind {
-            MountKind::Mem => 0,
-            MountKind::Null { .. } => 0,
-            MountKind::Union { store, .. } => *store,
-        },
-        None => 0,
-    }
-}
+use vfs_paths::upper_store;
+use vfs_tree::{Name, Node, Store, World};
 
 /// Makes a node at a name of a directory of a store that has a number left, and answers its inode number. The only fault
 /// is want of memory.

@@ -1,6 +1,5 @@
 // The names that a directory shows.
 ghost use Rattle.std.specs.Prelude.{◌≡◌, [], suc, IfOk};
-ghost use Rattle.vfs_tree.specs.Layers.{kind_in, store_by};
 ghost use Rattle.vfs_tree.specs.Place.{UnionUp};
 ghost use Rattle.vfs_tree.specs.declared.walk.Step.TheVariants.{Go};
 ghost use Rattle.vfs_tree.specs.Views.{facts_of};
@@ -8,22 +7,8 @@ ghost use Rattle.vfs_tree.specs.Visible as listing;
 
 use crate::shown::{given_at, has_given_at, merged_at};
 use std::alloc::{AllocError, Global};
-use vfs_paths::low;
-use vfs_tree::{Child, MountKind, NameList, Need, Place, Step, View, World};
-
-/// The mount number of the memory file system in which a union has its upper layer; 0 where the mount is no union.
-fn upper_store(world: &World, mount: u32) -> u32
-    ensures { result ≡ store_by (kind_in (facts_of world.now) mount) }
-{
-    match world.mounts.get(mount) {
-        Some(found) => match &found.kind {
-            MountKind::Mem => 0,
-            MountKind::Null { .. } => 0,
-            MountKind::Union { store, .. } => *store,
-        },
-        None => 0,
-    }
-}
+use vfs_paths::{low, upper_store};
+use vfs_tree::{Child, NameList, Need, Place, Step, View, World};
 
 /// No names.
 fn nothing(alloc: Global) -> Step<NameList, Need>

@@ -8,7 +8,7 @@ use std::alloc::{AllocError, Global};
 use vfs_tree::{Kind, MountKind, NameView, NodeId, Place, View};
 
 /// The mount number of the memory file system in which a union has its upper layer; 0 where the mount is no union.
-pub(crate) fn upper_store<V: NameView>(view: &V, mount: u32) -> u32
+pub fn upper_store<V: NameView>(view: &V, mount: u32) -> u32
     ensures { result ≡ layers.store_by (layers.kind_in (V.facts view.now) mount) }
 {
     match view.mount(mount) {

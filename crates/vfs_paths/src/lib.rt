@@ -21,7 +21,9 @@ mod under;
 pub use child::{child_of, low};
 pub use crossing::{check_dir, enter, most_steps};
 pub use forms::{find, in_cwd, in_place, walk};
-pub use layers::{base, is_cut, is_dir, is_file, is_linked, kind_of, parent_in, target_of};
+pub use layers::{
+    base, is_cut, is_dir, is_file, is_linked, kind_of, parent_in, target_of, upper_store,
+};
 pub use mount_root::{is_root, root};
 pub use named::{Walked, walk_view};
 pub use path::{PATH_MAX, PathFault, PathText, parse_path};
