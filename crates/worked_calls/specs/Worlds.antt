@@ -71,6 +71,14 @@ with_ab = with_root (record {
   next = 4;
 })
 
+-- the start, where no inode number is left
+abbrev pub used_up : World
+used_up = with_root (record empty_store { next = 4294967295 })
+
+-- and one where no mount number is left
+abbrev pub all_mounted : World
+all_mounted = record with_a { next_mount = 4294967295 }
+
 -- ---- open files
 
 abbrev pub reads : Mode
@@ -90,6 +98,10 @@ dead p mode = record { place = p; offset = 0; mode = mode; dead = true }
 -- to open what is there already
 abbrev pub flags : Access → Flags
 flags a = record { access = a; make = false; fresh = false; cut = false; append = false; dir = false }
+
+-- to open a file, which is made where it isn't there
+abbrev pub making : Access → Flags
+making a = record (flags a) { make = true }
 
 -- caller 1 has an open file
 abbrev pub with_first : World → Open → World
@@ -205,6 +217,10 @@ union t = record (apart t) {
 -- the upper layer is empty
 abbrev pub layered : World
 layered = union empty_store
+
+-- and has no inode number left
+abbrev pub layered_full : World
+layered_full = union (record empty_store { next = 4294967295 })
 
 -- it has a whiteout at `f`
 abbrev pub hidden : World

@@ -6,6 +6,7 @@
 mod files;
 mod mounts;
 mod names;
+mod numbers;
 mod unions;
 
 pub use files::{
@@ -19,6 +20,9 @@ pub use mounts::{
 pub use names::{
     a_directory_does_not_go_below_itself, a_directory_has_no_second_name, a_directory_is_made_once,
     a_link_to_itself_is_followed_no_further, a_missing_name_is_absent,
+};
+pub use numbers::{
+    no_mount_without_a_number, no_node_without_a_number, nothing_is_made_above_without_a_number,
 };
 pub use unions::{
     a_directory_of_the_lower_layer_needs_a_shadow, a_directory_that_is_made_again_is_opaque,
