@@ -8,6 +8,9 @@ fuzz.py legal PROGRAM SEED COUNT [run|seed]
                                      `run --seed S` is legal and its trees are the
                                      replay's, whatever the turns were; `run --order` too
 fuzz.py badlines PROGRAM SEED COUNT   the same with scripts that are damaged in one place
+fuzz.py judge SCRIPT OUTPUT STATUS   what PROGRAM wrote for one script with `run --order`, where one
+                                     allocation was refused, is that of a legal history, or with status 12
+                                     a front of what it writes else
 fuzz.py stats SEED COUNT             what the model answers on such scripts"""
 import collections
 import os
@@ -554,6 +557,17 @@ def legal(program, seed, count, form='seed'):
     return 1 if failures else 0
 
 
+def judge(script, out, status):
+    """Looks at one run in which one allocation was refused."""
+    if status == 12:
+        why = None if by_model(script)[1].startswith(out) else 'no front of the output: ' + clip(out)
+    else:
+        why = illegal(script, out) if status == 0 else 'status %d' % status
+    if why:
+        print(why)
+    return 1 if why else 0
+
+
 PIECES = [b' ', b'\n', b'%', b'%00', b'%0A', b'%2f', b'%41', b'-', b'0', b'00', b'-0', b'4294967296', b'99999999999999999999',
           b'end\n', b'vfs 1\n', b'limits 2 3 3 216\n', b'\0', b'\r', b'\xff', b'x', b'17', b'1 stat /\n', b'1  stat /\n',
           b'\t', b'+1', b'set', b'rx', b'rxc', b'A']
@@ -655,6 +669,9 @@ def main(a):
         return compare(a[1], int(a[2]), int(a[3]), a[4] if len(a) == 5 else None)
     if len(a) in (4, 5) and a[0] == 'legal':
         return legal(a[1], int(a[2]), int(a[3]), *a[4:])
+    if len(a) == 4 and a[0] == 'judge':
+        with open(a[1], 'rb') as script, open(a[2], 'rb') as out:
+            return judge(script.read(), out.read(), int(a[3]))
     if len(a) == 4 and a[0] == 'badlines':
         return badlines(a[1], int(a[2]), int(a[3]))
     if len(a) == 3 and a[0] == 'stats':
