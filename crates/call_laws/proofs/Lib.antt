@@ -23,6 +23,7 @@ pub mod SoundMade
 pub mod SoundRows
 pub mod NeedLaws
 pub mod FoundLaws
+pub mod WalkLaws
 pub mod PlaceLaws
 pub mod ChdirLaws
 pub mod BytesLaws
