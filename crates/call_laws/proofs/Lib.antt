@@ -27,3 +27,4 @@ pub mod WalkLaws
 pub mod PlaceLaws
 pub mod ChdirLaws
 pub mod BytesLaws
+pub mod WholeLaws

@@ -1,6 +1,6 @@
 -- The names of a store stay sound where a node is made at a name.
-use Rattle.std.proofs.Common.{◌≡◌, ℕ, zero, suc, ◌<◌, ◌⊎◌, inl, inr, Bool, true, false, ◌==◌, ◌||◌, List, [], refl, ap, sym, ◌∙◌, subst, arith, nat_cmp}
-use Rattle.std.specs.Prelude.{Option, Some, None, IsSome, is_some, option_map, option_and_then}
+use Rattle.std.proofs.Common.{◌≡◌, ℕ, zero, suc, ◌+◌, ◌<◌, ◌⊎◌, inl, inr, Bool, true, false, ◌==◌, ◌||◌, List, [], refl, ap, sym, ◌∙◌, subst, arith, nat_cmp}
+use Rattle.std.specs.Prelude.{Option, Some, None, IsSome, IfSome, is_some, option_map, option_and_then}
 use Rattle.std.specs.Cmp.{nat_cmp_total}
 use Rattle.std.specs.Cmp.Lexicographic.{nat_list_cmp_total}
 use Rattle.std.specs.FinMap.{FinMap, get, insert, empty, get-empty}
@@ -107,11 +107,11 @@ no_node : (o : Option Node) (i : ℕ) → (IsSome o → i < i) → o ≡ None
 no_node None i h = refl
 no_node (Some x) i h = absurd (let less = h refl in omega (arith, less))
 
-some_stays : (o r : Option Kind) → ((k : Kind) → o ≡ Some k → r ≡ Some k) → IsSome o → IsSome r
+pub some_stays : (o r : Option Kind) → ((k : Kind) → o ≡ Some k → r ≡ Some k) → IsSome o → IsSome r
 some_stays (Some k) r stay h = ap is_some (stay k refl)
 some_stays None r stay h = no_way h
 
-abbrev kind_at : Store → ℕ → Option Kind
+abbrev pub kind_at : Store → ℕ → Option Kind
 kind_at t i = option_map kind_of_node (get t.nodes i)
 
 module _ (t : Store) (u : ℕ) (n : List ℕ) (node : Node) (parent : ℕ) (opaque : Bool) (names : Names)
@@ -297,3 +297,32 @@ module _ (t : Store) (u : ℕ) (n : List ℕ) (node : Node) (parent : ℕ) (opaq
   -- the names of the store with the new node are sound
   pub made_names : StoreNames new
   made_names = record { lead = lead; removed = removed; given = given; once = once }
+
+  -- ---- numbers and parents
+
+  pub made_below : AreBelow new.nodes new.next
+  made_below i =
+      node_case i (λ o. IsSome o → i < t.next + 1)
+      (λ same _. let less : u < t.next = below u (ap is_some at) in omega (arith, less, same))
+      (λ same _. omega (arith, same))
+      (λ there. let less : i < t.next = below i there in omega (arith, less))
+
+  parents_stay : (i : ℕ) (o : Option Node) → IfSome (option_and_then (facts_in t i) o) (λ d. IsSome (kind_at t d.parent)) → IfSome (option_and_then (facts_in new i) o) (λ d. IsSome (kind_at new d.parent))
+  parents_stay i (Some (Dir p o ns)) h = some_stays (kind_at t p) (kind_at new p) (kind_stays p) h
+  parents_stay i (Some (File bytes)) h = tt
+  parents_stay i (Some (Link target)) h = tt
+  parents_stay i None h = tt
+
+  fresh_parent : (i : ℕ) (x : Node) → IsFresh u x → IfSome (option_and_then (facts_in new i) (Some x)) (λ d. IsSome (kind_at new d.parent))
+  fresh_parent i (Dir p o ns) h = ap (λ q. is_some (kind_at new q)) h.0 ∙ ap is_some (kind_stays u kind.Dir (ap (option_map kind_of_node) at))
+  fresh_parent i (File bytes) h = tt
+  fresh_parent i (Link target) h = tt
+
+  -- the parent of each directory is there
+  pub made_parents : ((i : ℕ) → IfSome (dir_in t i) (λ d. IsSome (kind_at t d.parent))) → (i : ℕ) → IfSome (dir_in new i) (λ d. IsSome (kind_at new d.parent))
+  made_parents h i =
+      node_case i (λ o. IfSome (option_and_then (facts_in new i) o) (λ d. IsSome (kind_at new d.parent)))
+      (λ same. let own : IsSome (kind_at t parent) = subst (λ o. IfSome (option_and_then (facts_in t u) o) (λ d. IsSome (kind_at t d.parent))) at (h u) in
+      some_stays (kind_at t parent) (kind_at new parent) (kind_stays parent) own)
+      (λ same. fresh_parent i node fresh)
+      (parents_stay i (get t.nodes i) (h i))
