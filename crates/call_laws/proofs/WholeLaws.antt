@@ -1,9 +1,9 @@
 -- Sound worlds that last, and edits of one store that keep them.
-use Rattle.std.proofs.Common.{◌≡◌, ℕ, ◌+◌, ◌≤◌, ◌<◌, Bool, true, false, cond, List, refl, ap, sym, ◌∙◌, subst, arith, nat_cmp}
+use Rattle.std.proofs.Common.{◌≡◌, ℕ, ◌≤◌, ◌<◌, Bool, true, false, cond, List, refl, ap, sym, ◌∙◌, subst, arith}
 use Rattle.std.specs.Prelude.{Option, Some, None, IsSome, IfSome, is_some, option_map, option_and_then}
 use Rattle.std.specs.Cmp.{nat_cmp_total}
 use Rattle.std.specs.Ordering.{eq_by_cmp}
-use Rattle.std.specs.FinMap.{FinMap, get, insert, remove, get-remove}
+use Rattle.std.specs.FinMap.{get, insert, remove, get-remove}
 use Rattle.std.proofs.lemmas.Map.Lookups.{exact_unsigned}
 use Rattle.finite_maps.specs.Keys.{pair_cmp}
 use Rattle.finite_maps.proofs.EntryLaws.{pair_total, pair_exact, by_key}
@@ -11,14 +11,12 @@ use Rattle.vfs_tree.specs.Edits.{with_node, with_store, made, with_made}
 use Rattle.vfs_tree.specs.Facts.{Facts}
 use Rattle.vfs_tree.specs.FileEdits.{with_bytes}
 use Rattle.vfs_tree.specs.Layers.{kind_in, is_cut, is_dir_kind, is_dir, linked_by, is_linked}
-use Rattle.vfs_tree.specs.Nodes.{entry_in, is_given, AreBelow, IsNumbered}
+use Rattle.vfs_tree.specs.Nodes.{entry_in, is_given, AreBelow}
 use Rattle.vfs_tree.specs.Place.{Seen, Mem, Null, UnionUp, UnionLow, mount_of}
 use Rattle.vfs_tree.specs.Sound.{IsSoundPlace, EachPlace, IsSound}
 use Rattle.vfs_tree.specs.StoreEdits.{with_node_at}
 use Rattle.vfs_tree.specs.Views.{kind_of_node, dir_in, facts_of}
-use Rattle.vfs_tree.specs.declared.mount.Mount.{Mount}
 use Rattle.vfs_tree.specs.declared.mount.MountKind.{MountKind}
-use Rattle.vfs_tree.specs.declared.mount.MountKind.TheVariants as kind
 use Rattle.vfs_tree.specs.declared.node.Kind.{Kind}
 use Rattle.vfs_tree.specs.declared.node.Node.{Node}
 use Rattle.vfs_tree.specs.declared.node.Store.{Store}
@@ -26,7 +24,7 @@ use Rattle.vfs_tree.specs.declared.open.Cwd.{Cwd}
 use Rattle.vfs_tree.specs.declared.open.Open.{Open}
 use Rattle.vfs_tree.specs.declared.view.DirFacts.{DirFacts}
 use Rattle.vfs_tree.specs.declared.world.World.{World}
-use Rattle.call_laws.specs.Lasting.{lower_mount, IsOver, IsUncut, AreCounted, IsLasting}
+use Rattle.call_laws.specs.Lasting.{lower_mount, IsOver, IsUncut, IsLasting}
 use Rattle.call_laws.proofs.BytesLaws.{kind_alike, dir_alike, names_alike}
 use Rattle.call_laws.proofs.MadeLaws.{IsFresh, StoreNames, kind_at, some_stays, made_names, kind_stays, made_below, made_parents}
 use Rattle.call_laws.proofs.SoundLaws.{sound-open, sound-closed, sound-cwd}
