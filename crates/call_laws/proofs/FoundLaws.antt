@@ -36,7 +36,7 @@ dir_ready f (Null m p) files dir = dir_ready f p files dir
 dir_ready f (UnionUp m i) files dir = tt
 dir_ready f (UnionLow m u n p) files dir = no_way (sym files.0 ∙ dir)
 
-abbrev ReadyChild : Facts → Child → Type 0
+abbrev pub ReadyChild : Facts → Child → Type 0
 ReadyChild f (child.At p) = IsReady f p
 ReadyChild f child.Absent = Unit {0}
 ReadyChild f (child.Need x) = Unit {0}
@@ -77,7 +77,7 @@ ready-mem f m (Some (Ino i)) = tt
 ready-mem f m (Some White) = tt
 ready-mem f m None = tt
 
-ready-within : (k : ℕ) (f : Facts) (d : Seen) (n : List ℕ) → ReadyChild f (child_within k f d n)
+pub ready-within : (k : ℕ) (f : Facts) (d : Seen) (n : List ℕ) → ReadyChild f (child_within k f d n)
 ready-within zero f d n = tt
 ready-within (suc k) f (Mem m i) n = ready-mem f m (f.entry m i n)
 ready-within (suc k) f (Null m p) n = ready-null f m (child_within k f p n) (ready-within k f p n)

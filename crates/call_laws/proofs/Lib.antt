@@ -1,6 +1,7 @@
 pub mod WeightLaws
 pub mod FlagLaws
 pub mod LiveCount
+pub mod Whole
 pub mod Parts
 pub mod NameParts
 pub mod DataParts
@@ -28,3 +29,4 @@ pub mod PlaceLaws
 pub mod ChdirLaws
 pub mod BytesLaws
 pub mod WholeLaws
+pub mod DetachLaws

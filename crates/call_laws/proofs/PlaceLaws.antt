@@ -55,7 +55,7 @@ same_mount (UnionUp m i) (UnionUp n j) h = eqb-true m n (first_of (m == n) (i ==
 same_mount (UnionLow m u a p) (UnionLow n v b q) h = eqb-true m n (first_of (m == n) ((u == v) && (bytes_eq a b && same_place p q)) h)
 same_mount _ _ h = no_way h
 
-below_head : (m : ℕ) (p : Seen) → IsBelow m p → mount_of p < m
+pub below_head : (m : ℕ) (p : Seen) → IsBelow m p → mount_of p < m
 below_head m (Mem n i) h = h
 below_head m (Null n p) h = h.0
 below_head m (UnionUp n i) h = h

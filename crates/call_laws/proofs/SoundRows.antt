@@ -37,9 +37,11 @@ use Rattle.call_laws.proofs.BytesLaws.{sound-bytes}
 use Rattle.call_laws.proofs.DataParts.{keeps-descriptor, keeps-check_read, keeps-check_write, keeps-check_length, keeps-open_length, keeps-offset_of}
 use Rattle.call_laws.proofs.NeedLaws.{FreeFound, free-found, free-visible}
 use Rattle.call_laws.proofs.NameParts.{alone-edit, keeps-stat_of, keeps-link_text}
-use Rattle.call_laws.proofs.Parts.{Keeps, Any, MakesNode, found_so, needed, weaker, then, unless, keeps-lifted, keeps-place_at, keeps-check_way}
+use Rattle.call_laws.proofs.PlaceLaws.{well_at}
+use Rattle.call_laws.proofs.Whole.{IsWhole}
+use Rattle.call_laws.proofs.Parts.{Well, ready_at, Keeps, Any, MakesNode, found_so, needed, weaker, then, unless, keeps-lifted, keeps-place_at, keeps-found_at, keeps-check_way}
 use Rattle.call_laws.proofs.SoundLaws.{sound-open, sound-closed, sound-cwd}
-use Rattle.call_laws.proofs.WholeLaws.{IsWhole, whole-bytes, whole-open, whole-closed, whole-cwd}
+use Rattle.call_laws.proofs.WholeLaws.{whole-bytes, whole-open, whole-closed, whole-cwd}
 
 -- whatever is needed
 abbrev pub AnyNeed : Inner → Type 0
@@ -150,10 +152,10 @@ module _ (P : World → Type 0) (steady : IsSteady P) where
   sound-resize : (w : World) (p : Seen) (n : ℕ) → P w → P (rows.resize_at w p n)
   sound-resize w p n h = let b = base (facts_of w) p in steady.written w b.store b.ino (λ old. resize_bytes old n) h
 
-  sound-truncate : (w : World) (a : Found) (n : ℕ) → FreeFound (facts_of w) a → P w → Keeps (LeavesSo P) (MakesNode w) (rows.truncate w a n)
-  sound-truncate w a n fa h =
-      then (place_at w a) (keeps-place_at w a fa) (λ p _.
-      then (rows.check_length w p n) (keeps-check_length w p n) (λ _ _. found_so (sound-resize w p n h)))
+  sound-truncate : (w : World) (a : Found) (n : ℕ) → FreeFound (facts_of w) a → Well w a → P w → Keeps (LeavesSo P) (MakesNode w) (rows.truncate w a n)
+  sound-truncate w a n fa wa h =
+      then (place_at w a) (keeps-found_at w a fa) (λ p is.
+      then (rows.check_length w p n) (keeps-check_length w p n (ready_at w a p wa is)) (λ _ _. found_so (sound-resize w p n h)))
 
   sound-ftruncate : (w : World) (c d n : ℕ) → P w → Keeps (LeavesSo P) (MakesNode w) (rows.ftruncate w c d n)
   sound-ftruncate w c d n h = then (rows.open_length w c d n) (keeps-open_length w c d n) (λ p _. found_so (sound-resize w p n h))
@@ -198,24 +200,24 @@ module _ (P : World → Type 0) (steady : IsSteady P) where
       then (place_at w a) (weaker (place_at w a) (λ _ s. s) (λ _ _. tt) (keeps-place_at w a fa)) (λ p _.
       unless (not (is_file (facts_of w) p)) _ (λ _. sound-revoke_next w (first_open w p) h))
 
-  sound-decided : (w : World) (c : ℕ) (call : Call) → IsQuiet call → P w → (a b : Found) → FreeFound (facts_of w) a → Keeps (LeavesSo P) AnyNeed (decided w c call a b)
-  sound-decided w c (call.Close d) quiet h a b fa = free _ (sound-close w c d h)
-  sound-decided w c (call.Read d n) quiet h a b fa = free _ (sound-read w c d n h)
-  sound-decided w c (call.Pread d n o) quiet h a b fa = free _ (sound-pread w c d n o h)
-  sound-decided w c (call.Lseek d x i) quiet h a b fa = free _ (sound-lseek w c d x i h)
-  sound-decided w c (call.Write d bytes) quiet h a b fa = free _ (sound-write w c d bytes h)
-  sound-decided w c (call.Pwrite d o bytes) quiet h a b fa = free _ (sound-pwrite w c d o bytes h)
-  sound-decided w c (call.Truncate p n) quiet h a b fa = free _ (sound-truncate w a n fa h)
-  sound-decided w c (call.Ftruncate d n) quiet h a b fa = free _ (sound-ftruncate w c d n h)
-  sound-decided w c (call.Stat p) quiet h a b fa = free _ (sound-stat w a fa h)
-  sound-decided w c (call.Lstat p) quiet h a b fa = free _ (sound-stat w a fa h)
-  sound-decided w c (call.Fstat d) quiet h a b fa = free _ (sound-fstat w c d h)
-  sound-decided w c (call.Readdir d) quiet h a b fa = free _ (sound-readdir w c d h)
-  sound-decided w c (call.Readlink p) quiet h a b fa = free _ (sound-readlink w a fa h)
-  sound-decided w c (call.Fchdir d) quiet h a b fa = free _ (sound-fchdir w c d h)
-  sound-decided w c (call.Statfs p) quiet h a b fa = free _ (sound-statfs w a fa h)
-  sound-decided w c (call.Revoke p) quiet h a b fa = sound-revoke w a fa h
-  sound-decided w c _ quiet h a b fa = absurd quiet
+  sound-decided : (w : World) (c : ℕ) (call : Call) → IsQuiet call → P w → (a b : Found) → FreeFound (facts_of w) a → Well w a → Keeps (LeavesSo P) AnyNeed (decided w c call a b)
+  sound-decided w c (call.Close d) quiet h a b fa wa = free _ (sound-close w c d h)
+  sound-decided w c (call.Read d n) quiet h a b fa wa = free _ (sound-read w c d n h)
+  sound-decided w c (call.Pread d n o) quiet h a b fa wa = free _ (sound-pread w c d n o h)
+  sound-decided w c (call.Lseek d x i) quiet h a b fa wa = free _ (sound-lseek w c d x i h)
+  sound-decided w c (call.Write d bytes) quiet h a b fa wa = free _ (sound-write w c d bytes h)
+  sound-decided w c (call.Pwrite d o bytes) quiet h a b fa wa = free _ (sound-pwrite w c d o bytes h)
+  sound-decided w c (call.Truncate p n) quiet h a b fa wa = free _ (sound-truncate w a n fa wa h)
+  sound-decided w c (call.Ftruncate d n) quiet h a b fa wa = free _ (sound-ftruncate w c d n h)
+  sound-decided w c (call.Stat p) quiet h a b fa wa = free _ (sound-stat w a fa h)
+  sound-decided w c (call.Lstat p) quiet h a b fa wa = free _ (sound-stat w a fa h)
+  sound-decided w c (call.Fstat d) quiet h a b fa wa = free _ (sound-fstat w c d h)
+  sound-decided w c (call.Readdir d) quiet h a b fa wa = free _ (sound-readdir w c d h)
+  sound-decided w c (call.Readlink p) quiet h a b fa wa = free _ (sound-readlink w a fa h)
+  sound-decided w c (call.Fchdir d) quiet h a b fa wa = free _ (sound-fchdir w c d h)
+  sound-decided w c (call.Statfs p) quiet h a b fa wa = free _ (sound-statfs w a fa h)
+  sound-decided w c (call.Revoke p) quiet h a b fa wa = sound-revoke w a fa h
+  sound-decided w c _ quiet h a b fa wa = absurd quiet
 
   settled : (w : World) (o : Outcome) → P w → Keeps (LeavesSo P) AnyNeed o → P (world_after w (settle w o))
   settled w (Go x) h k = k.holds
@@ -238,7 +240,7 @@ module _ (P : World → Type 0) (steady : IsSteady P) where
   -- the entry of such a call leaves such a world
   pub so-quiet : (w : World) (c : ℕ) (call : Call) (r : Reply) → IsQuiet call → P w → P (after w (entry.Call c call r))
   so-quiet w c call r quiet h =
-      so-decide w c call r h (sound-decided w c call quiet h (first_found w c call) (second_found w c call) (free-found w c (first_way call)))
+      so-decide w c call r h (sound-decided w c call quiet h (first_found w c call) (second_found w c call) (free-found w c (first_way call)) (λ x. well_at w x.sound x.lasts c (first_way call)))
 
 -- ---- sound worlds
 

@@ -13,7 +13,7 @@ use Rattle.vfs_tree.specs.FileEdits.{with_bytes}
 use Rattle.vfs_tree.specs.Layers.{kind_in, is_cut, is_dir_kind, is_dir, linked_by, is_linked}
 use Rattle.vfs_tree.specs.Nodes.{entry_in, is_given, AreBelow}
 use Rattle.vfs_tree.specs.Place.{Seen, Mem, Null, UnionUp, UnionLow, mount_of}
-use Rattle.vfs_tree.specs.Sound.{IsSoundPlace, EachPlace, IsSound}
+use Rattle.vfs_tree.specs.Sound.{IsSoundPlace, EachPlace}
 use Rattle.vfs_tree.specs.StoreEdits.{with_node_at}
 use Rattle.vfs_tree.specs.Views.{kind_of_node, dir_in, facts_of}
 use Rattle.vfs_tree.specs.declared.mount.MountKind.{MountKind}
@@ -29,12 +29,8 @@ use Rattle.call_laws.proofs.BytesLaws.{kind_alike, dir_alike, names_alike}
 use Rattle.call_laws.proofs.MadeLaws.{IsFresh, StoreNames, kind_at, some_stays, made_names, kind_stays, made_below, made_parents}
 use Rattle.call_laws.proofs.SoundLaws.{sound-open, sound-closed, sound-cwd}
 use Rattle.call_laws.proofs.SoundMade.{NamesOf, sound-stores, dir_at, link_at}
+use Rattle.call_laws.proofs.Whole.{IsWhole}
 use Rattle.call_laws.proofs.SoundParts.{if_each, each_place, Stays, same_kind_of}
-
--- a sound world that lasts
-pub record IsWhole (w : World) : Type 0 where
-  pub sound : IsSound w
-  pub lasts : IsLasting w
 
 -- ---- places
 
