@@ -30,3 +30,4 @@ pub mod ChdirLaws
 pub mod BytesLaws
 pub mod WholeLaws
 pub mod DetachLaws
+pub mod DropLaws

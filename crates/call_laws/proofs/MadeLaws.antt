@@ -32,7 +32,7 @@ IsFresh u (Dir parent opaque names) = (parent ≡ u) × (names ≡ empty)
 IsFresh u (File bytes) = Unit {0}
 IsFresh u (Link target) = Unit {0}
 
-none_some : {A X : Type 0} {x : X} {o : Option X} → o ≡ None → o ≡ Some x → A
+pub none_some : {A X : Type 0} {x : X} {o : Option X} → o ≡ None → o ≡ Some x → A
 none_some {x = x} p q = absurd (let clash : None ≡ Some x = sym p ∙ q in cc)
 
 fresh_names : (u : ℕ) (node : Node) → IsFresh u node → (m : List ℕ) → entry_in m (Some node) ≡ None
@@ -40,33 +40,33 @@ fresh_names u (Dir parent opaque names) h m = ap (λ (x : Names). get x m) h.1 �
 fresh_names u (File bytes) h m = refl
 fresh_names u (Link target) h m = refl
 
-same_parent : (s t : Store) (d : ℕ) (o : Option Node) → parent_by d (option_and_then (facts_in s d) o) ≡ parent_by d (option_and_then (facts_in t d) o)
+pub same_parent : (s t : Store) (d : ℕ) (o : Option Node) → parent_by d (option_and_then (facts_in s d) o) ≡ parent_by d (option_and_then (facts_in t d) o)
 same_parent s t d (Some (Dir parent opaque names)) = refl
 same_parent s t d (Some (File bytes)) = refl
 same_parent s t d (Some (Link target)) = refl
 same_parent s t d None = refl
 
 -- a directory is linked as its store says
-linked_is : (t : Store) (d : ℕ) (o : Option Node) → linked_by (option_and_then (facts_in t d) o) ≡ true → is_linked_in t d ≡ true
+pub linked_is : (t : Store) (d : ℕ) (o : Option Node) → linked_by (option_and_then (facts_in t d) o) ≡ true → is_linked_in t d ≡ true
 linked_is t d (Some (Dir parent opaque names)) h = h
 linked_is t d (Some (File bytes)) h = no_way h
 linked_is t d (Some (Link target)) h = no_way h
 linked_is t d None h = no_way h
 
-is_linked : (t : Store) (d : ℕ) (o : Option Node) → option_map kind_of_node o ≡ Some kind.Dir → is_linked_in t d ≡ true → linked_by (option_and_then (facts_in t d) o) ≡ true
+pub is_linked : (t : Store) (d : ℕ) (o : Option Node) → option_map kind_of_node o ≡ Some kind.Dir → is_linked_in t d ≡ true → linked_by (option_and_then (facts_in t d) o) ≡ true
 is_linked t d (Some (Dir parent opaque names)) dir h = h
 is_linked t d (Some (File bytes)) dir h = absurd cc
 is_linked t d (Some (Link target)) dir h = absurd cc
 is_linked t d None dir h = absurd cc
 
-linked_dir : (t : Store) (d : ℕ) (o : Option Node) → linked_by (option_and_then (facts_in t d) o) ≡ true → option_map kind_of_node o ≡ Some kind.Dir
+pub linked_dir : (t : Store) (d : ℕ) (o : Option Node) → linked_by (option_and_then (facts_in t d) o) ≡ true → option_map kind_of_node o ≡ Some kind.Dir
 linked_dir t d (Some (Dir parent opaque names)) h = refl
 linked_dir t d (Some (File bytes)) h = no_way h
 linked_dir t d (Some (Link target)) h = no_way h
 linked_dir t d None h = no_way h
 
 -- where no directory is, no name is
-no_dir : (t : Store) (d : ℕ) (m : List ℕ) (o : Option Node) → (option_map kind_of_node o ≡ Some kind.Dir → ⊥) → entry_in m o ≡ None
+pub no_dir : (t : Store) (d : ℕ) (m : List ℕ) (o : Option Node) → (option_map kind_of_node o ≡ Some kind.Dir → ⊥) → entry_in m o ≡ None
 no_dir t d m (Some (Dir parent opaque names)) h = absurd (h refl)
 no_dir t d m (Some (File bytes)) h = refl
 no_dir t d m (Some (Link target)) h = refl
@@ -77,29 +77,29 @@ new_parent t i u (Dir parent opaque names) h dir = h.0
 new_parent t i u (File bytes) h dir = absurd cc
 new_parent t i u (Link target) h dir = absurd cc
 
-linked_way : (t : Store) (d : ℕ) → is_linked_in t d ≡ true → ((d == 1) ≡ true) ⊎ (is_named_in t d ≡ true)
+pub linked_way : (t : Store) (d : ℕ) → is_linked_in t d ≡ true → ((d == 1) ≡ true) ⊎ (is_named_in t d ≡ true)
 linked_way t d h = by (d == 1) h
   where
     by : (b : Bool) → (b || is_named_in t d) ≡ true → (b ≡ true) ⊎ (is_named_in t d ≡ true)
     by true e = inl refl
     by false e = inr e
 
-linked_root : (t : Store) (d : ℕ) → (d == 1) ≡ true → is_linked_in t d ≡ true
+pub linked_root : (t : Store) (d : ℕ) → (d == 1) ≡ true → is_linked_in t d ≡ true
 linked_root t d h = ap (λ b. b || is_named_in t d) h
 
-linked_named : (t : Store) (d : ℕ) → is_named_in t d ≡ true → is_linked_in t d ≡ true
+pub linked_named : (t : Store) (d : ℕ) → is_named_in t d ≡ true → is_linked_in t d ≡ true
 linked_named t d h = by (d == 1) (is_named_in t d) h
   where
     by : (a b : Bool) → b ≡ true → (a || b) ≡ true
     by true b e = refl
     by false b e = e
 
-abbrev inode_of : Option NameEntry → ℕ
+abbrev pub inode_of : Option NameEntry → ℕ
 inode_of (Some (Ino i)) = i
 inode_of (Some White) = 0
 inode_of None = 0
 
-abbrev name_or : Option (List ℕ) → List ℕ
+abbrev pub name_or : Option (List ℕ) → List ℕ
 name_or (Some n) = n
 name_or None = []
 
