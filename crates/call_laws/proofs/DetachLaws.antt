@@ -103,7 +103,7 @@ is_layer o (Some (kind.Union s u lower)) l is e = subst (IsLayer o) (ap number_o
 is_layer o None l is e = absurd (let clash : None ≡ Some l = e in cc)
 
 -- the mount of a lower layer has a smaller number
-lower_less : (m : ℕ) (o : Option Mount) (l : ℕ) → IfSome o (EachPlace (IsBelow m)) → lower_mount (option_map (λ (t : Mount). t.kind) o) ≡ Some l → l < m
+pub lower_less : (m : ℕ) (o : Option Mount) (l : ℕ) → IfSome o (EachPlace (IsBelow m)) → lower_mount (option_map (λ (t : Mount). t.kind) o) ≡ Some l → l < m
 lower_less m (Some t) l h e = by t.kind h.1 e
   where
     by : (k : MountKind) → EachLayer (IsBelow m) k → lower_mount (Some k) ≡ Some l → l < m

@@ -31,3 +31,4 @@ pub mod BytesLaws
 pub mod WholeLaws
 pub mod DetachLaws
 pub mod DropLaws
+pub mod GivenLaws
