@@ -64,7 +64,7 @@ keeps-free_case : (N : Inner → Type 0) (next : Doing ℕ) (d : ℕ) (b : Bool)
 keeps-free_case N next d true h = h
 keeps-free_case N next d false h = found_so tt
 
-keeps-free_from : (N : Inner → Type 0) (k : ℕ) (w : World) (c d : ℕ) → Keeps Any N (rows.free_from k w c d)
+pub keeps-free_from : (N : Inner → Type 0) (k : ℕ) (w : World) (c d : ℕ) → Keeps Any N (rows.free_from k w c d)
 keeps-free_from N zero w c d = refused
 keeps-free_from N (suc k) w c d = keeps-free_case N (rows.free_from k w c (d + 1)) d (is_some (get w.opens (c, d))) (keeps-free_from N k w c (d + 1))
 

@@ -32,3 +32,4 @@ pub mod WholeLaws
 pub mod DetachLaws
 pub mod DropLaws
 pub mod GivenLaws
+pub mod NameLaws

@@ -140,7 +140,7 @@ module _ (t : Store) (u : ℕ) (n : List ℕ) (node : Node) (parent : ℕ) (opaq
       subst (λ (m : FinMap nat_cmp Node). P (get m d)) (sym nodes)
       (by_key nat_cmp_total exact_unsigned (insert t.nodes t.next node) u over d P here (by_key nat_cmp_total exact_unsigned t.nodes t.next node d P there else))
 
-  node_new : get new.nodes t.next ≡ Some node
+  pub node_new : get new.nodes t.next ≡ Some node
   node_new =
       ap (λ (m : FinMap nat_cmp Node). get m t.next) nodes
       ∙ by_key nat_cmp_total exact_unsigned (insert t.nodes t.next node) u over t.next (λ o. o ≡ Some node) (λ e. absurd (apart (sym e))) (get_at-insert nat_cmp_total t.nodes t.next node)

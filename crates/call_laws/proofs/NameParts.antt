@@ -107,7 +107,7 @@ keeps-link w a b fa fb wa =
     then (copied w p) (keeps-copied w p (ready_at w a p wa is)) (λ _ _.
     found_so (plain w _ (alone-edit w t.dir (λ s dir. set_entry s dir t.name (Ino (base (facts_of w) p).ino))), refl))))))
 
-keeps-check_text : (w : World) (text : List ℕ) → Keeps Any (MakesNode w) (rows.check_text text)
+pub keeps-check_text : (w : World) (text : List ℕ) → Keeps Any (MakesNode w) (rows.check_text text)
 keeps-check_text w text = unless (is_empty text) _ (λ _. unless (has_zero text) _ (λ _. check (nat_lt 1023 (length text)) _))
 
 pub keeps-symlink : (w : World) (text : List ℕ) (a : Found) → FreeFound (facts_of w) a → Keeps (Ends w) (MakesNode w) (rows.symlink w text a)

@@ -90,7 +90,7 @@ keeps-lifted w (Wants x) free = keeps-shadow w x free
 abbrev pub Ready : World → Seen → Type 0
 Ready w p = IsWhole w → IsReady (facts_of w) p
 
-ready_bare : (f : Facts) (p : Seen) → IsReady f p → IsReady f (bare p)
+pub ready_bare : (f : Facts) (p : Seen) → IsReady f p → IsReady f (bare p)
 ready_bare f (Mem m i) h = h
 ready_bare f (Null m p) h = ready_bare f p h
 ready_bare f (UnionUp m i) h = h

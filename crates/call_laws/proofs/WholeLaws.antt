@@ -74,7 +74,7 @@ pub record IsKept (t new : Store) : Type 0 where
   pub kinds : (i : ℕ) (k : Kind) → kind_at t i ≡ Some k → kind_at new i ≡ Some k
 
 module _ (w : World) (h : IsWhole w) (s : ℕ) where
-  well_store : (t : Store) → get w.stores s ≡ Some t → IsWell t
+  pub well_store : (t : Store) → get w.stores s ≡ Some t → IsWell t
   well_store t e = record {
     names = subst NamesOf e (h.sound.view.names s);
     below = subst (λ o. IfSome o (λ t. AreBelow t.nodes t.next)) e (h.lasts.numbered s);
