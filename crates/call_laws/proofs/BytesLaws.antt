@@ -77,7 +77,7 @@ module _ (t : Store) (i : ℕ) (g : List ℕ → List ℕ) (node : Node) (at : g
       (λ h. let x = named_from new d h in named_to t d x.dir x.name (sym (entry_alike x.dir x.name) ∙ x.entry))
       (λ h. let x = named_from t d h in named_to new d x.dir x.name (entry_alike x.dir x.name ∙ x.entry))
 
-  dir_alike : (d : ℕ) → dir_in new d ≡ dir_in t d
+  pub dir_alike : (d : ℕ) → dir_in new d ≡ dir_in t d
   dir_alike d =
       facts_alike new t d (get new.nodes d) (ap (λ b. (d == 1) || b) (named_alike d))
       ∙ seen_alike (option_and_then (facts_in t d)) (facts_kept g t d node) d

@@ -24,7 +24,7 @@ use Rattle.call_laws.specs.Live.{live}
 use Rattle.call_laws.proofs.FlagLaws.{no_flag, no_flag-through, no_flag-open, no_flag-close}
 use Rattle.call_laws.proofs.NeedLaws.{FreeFound, free-visible}
 use Rattle.call_laws.proofs.LiveCount.{live_opens, live_cwds, live-parts, opens-insert, opens-remove}
-use Rattle.call_laws.proofs.Parts.{Keeps, Any, MakesNode, found_so, refused, then, unless, check, keeps-shadow, keeps-lifted, keeps-copied, keeps-place_at}
+use Rattle.call_laws.proofs.Parts.{Keeps, Any, MakesNode, found_so, refused, then, unless, check, keeps-shadow, keeps-lifted, keeps-copied, Ready, Well, ready_at, keeps-found_at}
 use Rattle.call_laws.proofs.NameParts.{Alone, Plain, Ends, alone-itself, alone-edit, plain, plain-cwd, keeps-make, keeps-stat_of}
 
 -- ---- worlds
@@ -64,7 +64,7 @@ keeps-free_case : (N : Inner → Type 0) (next : Doing ℕ) (d : ℕ) (b : Bool)
 keeps-free_case N next d true h = h
 keeps-free_case N next d false h = found_so tt
 
-keeps-free_from : (N : Inner → Type 0) (k : ℕ) (w : World) (c d : ℕ) → Keeps Any N (rows.free_from k w c d)
+pub keeps-free_from : (N : Inner → Type 0) (k : ℕ) (w : World) (c d : ℕ) → Keeps Any N (rows.free_from k w c d)
 keeps-free_from N zero w c d = refused
 keeps-free_from N (suc k) w c d = keeps-free_case N (rows.free_from k w c (d + 1)) d (is_some (get w.opens (c, d))) (keeps-free_from N k w c (d + 1))
 
@@ -74,15 +74,15 @@ alone-cut : (b : Bool) (w : World) (p : Seen) → Alone w (rows.cut_to b w p)
 alone-cut true w p = alone-edit w p (λ t i. resized t i 0)
 alone-cut false w p = alone-itself w
 
-keeps-copied_for : (b : Bool) (w : World) (p : Seen) → Keeps Any (MakesNode w) (rows.copied_for b w p)
-keeps-copied_for true w p = keeps-copied w p
-keeps-copied_for false w p = found_so tt
+pub keeps-copied_for : (b : Bool) (w : World) (p : Seen) → Ready w p → Keeps Any (MakesNode w) (rows.copied_for b w p)
+keeps-copied_for true w p ready = keeps-copied w p ready
+keeps-copied_for false w p ready = found_so tt
 
-keeps-open_there : (w : World) (c fd : ℕ) (f : Flags) (p : Seen) → Keeps (Ends w) (MakesNode w) (rows.open_there w c fd f p)
-keeps-open_there w c fd f p =
+keeps-open_there : (w : World) (c fd : ℕ) (f : Flags) (p : Seen) → Ready w p → Keeps (Ends w) (MakesNode w) (rows.open_there w c fd f p)
+keeps-open_there w c fd f p ready =
     unless (is_dir (facts_of w) p && rows.writes f.access) _ (λ _.
     unless (not (is_dir (facts_of w) p) && f.dir) _ (λ _.
-    then (rows.copied_for (rows.writes f.access) w p) (keeps-copied_for (rows.writes f.access) w p) (λ _ _.
+    then (rows.copied_for (rows.writes f.access) w p) (keeps-copied_for (rows.writes f.access) w p ready) (λ _ _.
     found_so (plain-open w (rows.cut_to f.cut w p) (alone-cut f.cut w p) c fd (record { place = p; offset = 0; mode = rows.mode_of f; dead = false }) (λ e. cc), refl))))
 
 keeps-open_made : (w : World) (c fd : ℕ) (f : Flags) (d : Seen) (n : List ℕ) → Keeps (Ends w) (MakesNode w) (rows.open_made w c fd f d n)
@@ -90,20 +90,20 @@ keeps-open_made w c fd f d n =
     then (make_at w d n (File [])) (keeps-make w d n (File [])) (λ new h.
     found_so (plain-open w new h c fd (record { place = rows.place_in d (next_of (get w.stores (base (facts_of w) d).store)); offset = 0; mode = rows.mode_of f; dead = false }) (λ e. cc), refl))
 
-keeps-open_found : (w : World) (c fd : ℕ) (f : Flags) (a : Found) → FreeFound (facts_of w) a → Keeps (Ends w) (MakesNode w) (rows.open_found w c fd f a)
-keeps-open_found w c fd f (found.At p) fa = keeps-open_there w c fd f p
-keeps-open_found w c fd f (found.In d n None) fa = keeps-open_made w c fd f d n
-keeps-open_found w c fd f (found.In d n (Some p)) fa = refused
-keeps-open_found w c fd f (found.Dot d) fa = refused
-keeps-open_found w c fd f (found.Mount m) fa = refused
-keeps-open_found w c fd f (found.Refused e) fa = refused
-keeps-open_found w c fd f (found.Need x) fa = keeps-shadow w x fa
+keeps-open_found : (w : World) (c fd : ℕ) (f : Flags) (a : Found) → FreeFound (facts_of w) a → Well w a → Keeps (Ends w) (MakesNode w) (rows.open_found w c fd f a)
+keeps-open_found w c fd f (found.At p) fa wa = keeps-open_there w c fd f p (ready_at w (found.At p) p wa refl)
+keeps-open_found w c fd f (found.In d n None) fa wa = keeps-open_made w c fd f d n
+keeps-open_found w c fd f (found.In d n (Some p)) fa wa = refused
+keeps-open_found w c fd f (found.Dot d) fa wa = refused
+keeps-open_found w c fd f (found.Mount m) fa wa = refused
+keeps-open_found w c fd f (found.Refused e) fa wa = refused
+keeps-open_found w c fd f (found.Need x) fa wa = keeps-shadow w x fa
 
-pub keeps-open_file : (w : World) (c : ℕ) (f : Flags) (a : Found) → FreeFound (facts_of w) a → Keeps (Ends w) (MakesNode w) (rows.open_file w c f a)
-keeps-open_file w c f a fa =
+pub keeps-open_file : (w : World) (c : ℕ) (f : Flags) (a : Found) → FreeFound (facts_of w) a → Well w a → Keeps (Ends w) (MakesNode w) (rows.open_file w c f a)
+keeps-open_file w c f a fa wa =
     unless (not (rows.are_flags f)) _ (λ _.
     then (rows.free_descriptor w c) (keeps-free_from (MakesNode w) 32 w c 0) (λ fd _.
-    unless (not (nat_lt (len w.opens) w.limits.files)) _ (λ _. keeps-open_found w c fd f a fa)))
+    unless (not (nat_lt (len w.opens) w.limits.files)) _ (λ _. keeps-open_found w c fd f a fa wa)))
 
 pub keeps-close : (w : World) (c d : ℕ) → Keeps (Ends w) (MakesNode w) (rows.close w c d)
 keeps-close w c d = then (rows.descriptor w c d) (keeps-descriptor w c d) (λ o is. found_so (plain-close w c d o is, refl))
@@ -172,13 +172,13 @@ keeps-lseek w c d h i =
 
 -- ---- truncate(2) and ftruncate(2)
 
-pub keeps-check_length : (w : World) (p : Seen) (n : ℕ) → Keeps Any (MakesNode w) (rows.check_length w p n)
-keeps-check_length w p n = unless (is_dir (facts_of w) p) _ (λ _. unless (nat_lt rows.most_bytes n) _ (λ _. keeps-copied w p))
+pub keeps-check_length : (w : World) (p : Seen) (n : ℕ) → Ready w p → Keeps Any (MakesNode w) (rows.check_length w p n)
+keeps-check_length w p n ready = unless (is_dir (facts_of w) p) _ (λ _. unless (nat_lt rows.most_bytes n) _ (λ _. keeps-copied w p ready))
 
-pub keeps-truncate : (w : World) (a : Found) (n : ℕ) → FreeFound (facts_of w) a → Keeps (Ends w) (MakesNode w) (rows.truncate w a n)
-keeps-truncate w a n fa =
-    then (place_at w a) (keeps-place_at w a fa) (λ p _.
-    then (rows.check_length w p n) (keeps-check_length w p n) (λ _ _. found_so (plain-resize w p n, refl)))
+pub keeps-truncate : (w : World) (a : Found) (n : ℕ) → FreeFound (facts_of w) a → Well w a → Keeps (Ends w) (MakesNode w) (rows.truncate w a n)
+keeps-truncate w a n fa wa =
+    then (place_at w a) (keeps-found_at w a fa) (λ p is.
+    then (rows.check_length w p n) (keeps-check_length w p n (ready_at w a p wa is)) (λ _ _. found_so (plain-resize w p n, refl)))
 
 pub keeps-open_length : (w : World) (c d n : ℕ) → Keeps Any (MakesNode w) (rows.open_length w c d n)
 keeps-open_length w c d n =

@@ -1,6 +1,7 @@
 pub mod WeightLaws
 pub mod FlagLaws
 pub mod LiveCount
+pub mod Whole
 pub mod Parts
 pub mod NameParts
 pub mod DataParts
@@ -23,6 +24,12 @@ pub mod SoundMade
 pub mod SoundRows
 pub mod NeedLaws
 pub mod FoundLaws
+pub mod WalkLaws
 pub mod PlaceLaws
 pub mod ChdirLaws
 pub mod BytesLaws
+pub mod WholeLaws
+pub mod DetachLaws
+pub mod DropLaws
+pub mod GivenLaws
+pub mod NameLaws

@@ -1,6 +1,6 @@
 -- The names of a store stay sound where a node is made at a name.
-use Rattle.std.proofs.Common.{◌≡◌, ℕ, zero, suc, ◌<◌, ◌⊎◌, inl, inr, Bool, true, false, ◌==◌, ◌||◌, List, [], refl, ap, sym, ◌∙◌, subst, arith, nat_cmp}
-use Rattle.std.specs.Prelude.{Option, Some, None, IsSome, is_some, option_map, option_and_then}
+use Rattle.std.proofs.Common.{◌≡◌, ℕ, zero, suc, ◌+◌, ◌<◌, ◌⊎◌, inl, inr, Bool, true, false, ◌==◌, ◌||◌, List, [], refl, ap, sym, ◌∙◌, subst, arith, nat_cmp}
+use Rattle.std.specs.Prelude.{Option, Some, None, IsSome, IfSome, is_some, option_map, option_and_then}
 use Rattle.std.specs.Cmp.{nat_cmp_total}
 use Rattle.std.specs.Cmp.Lexicographic.{nat_list_cmp_total}
 use Rattle.std.specs.FinMap.{FinMap, get, insert, empty, get-empty}
@@ -32,7 +32,7 @@ IsFresh u (Dir parent opaque names) = (parent ≡ u) × (names ≡ empty)
 IsFresh u (File bytes) = Unit {0}
 IsFresh u (Link target) = Unit {0}
 
-none_some : {A X : Type 0} {x : X} {o : Option X} → o ≡ None → o ≡ Some x → A
+pub none_some : {A X : Type 0} {x : X} {o : Option X} → o ≡ None → o ≡ Some x → A
 none_some {x = x} p q = absurd (let clash : None ≡ Some x = sym p ∙ q in cc)
 
 fresh_names : (u : ℕ) (node : Node) → IsFresh u node → (m : List ℕ) → entry_in m (Some node) ≡ None
@@ -40,33 +40,33 @@ fresh_names u (Dir parent opaque names) h m = ap (λ (x : Names). get x m) h.1 �
 fresh_names u (File bytes) h m = refl
 fresh_names u (Link target) h m = refl
 
-same_parent : (s t : Store) (d : ℕ) (o : Option Node) → parent_by d (option_and_then (facts_in s d) o) ≡ parent_by d (option_and_then (facts_in t d) o)
+pub same_parent : (s t : Store) (d : ℕ) (o : Option Node) → parent_by d (option_and_then (facts_in s d) o) ≡ parent_by d (option_and_then (facts_in t d) o)
 same_parent s t d (Some (Dir parent opaque names)) = refl
 same_parent s t d (Some (File bytes)) = refl
 same_parent s t d (Some (Link target)) = refl
 same_parent s t d None = refl
 
 -- a directory is linked as its store says
-linked_is : (t : Store) (d : ℕ) (o : Option Node) → linked_by (option_and_then (facts_in t d) o) ≡ true → is_linked_in t d ≡ true
+pub linked_is : (t : Store) (d : ℕ) (o : Option Node) → linked_by (option_and_then (facts_in t d) o) ≡ true → is_linked_in t d ≡ true
 linked_is t d (Some (Dir parent opaque names)) h = h
 linked_is t d (Some (File bytes)) h = no_way h
 linked_is t d (Some (Link target)) h = no_way h
 linked_is t d None h = no_way h
 
-is_linked : (t : Store) (d : ℕ) (o : Option Node) → option_map kind_of_node o ≡ Some kind.Dir → is_linked_in t d ≡ true → linked_by (option_and_then (facts_in t d) o) ≡ true
+pub is_linked : (t : Store) (d : ℕ) (o : Option Node) → option_map kind_of_node o ≡ Some kind.Dir → is_linked_in t d ≡ true → linked_by (option_and_then (facts_in t d) o) ≡ true
 is_linked t d (Some (Dir parent opaque names)) dir h = h
 is_linked t d (Some (File bytes)) dir h = absurd cc
 is_linked t d (Some (Link target)) dir h = absurd cc
 is_linked t d None dir h = absurd cc
 
-linked_dir : (t : Store) (d : ℕ) (o : Option Node) → linked_by (option_and_then (facts_in t d) o) ≡ true → option_map kind_of_node o ≡ Some kind.Dir
+pub linked_dir : (t : Store) (d : ℕ) (o : Option Node) → linked_by (option_and_then (facts_in t d) o) ≡ true → option_map kind_of_node o ≡ Some kind.Dir
 linked_dir t d (Some (Dir parent opaque names)) h = refl
 linked_dir t d (Some (File bytes)) h = no_way h
 linked_dir t d (Some (Link target)) h = no_way h
 linked_dir t d None h = no_way h
 
 -- where no directory is, no name is
-no_dir : (t : Store) (d : ℕ) (m : List ℕ) (o : Option Node) → (option_map kind_of_node o ≡ Some kind.Dir → ⊥) → entry_in m o ≡ None
+pub no_dir : (t : Store) (d : ℕ) (m : List ℕ) (o : Option Node) → (option_map kind_of_node o ≡ Some kind.Dir → ⊥) → entry_in m o ≡ None
 no_dir t d m (Some (Dir parent opaque names)) h = absurd (h refl)
 no_dir t d m (Some (File bytes)) h = refl
 no_dir t d m (Some (Link target)) h = refl
@@ -77,29 +77,29 @@ new_parent t i u (Dir parent opaque names) h dir = h.0
 new_parent t i u (File bytes) h dir = absurd cc
 new_parent t i u (Link target) h dir = absurd cc
 
-linked_way : (t : Store) (d : ℕ) → is_linked_in t d ≡ true → ((d == 1) ≡ true) ⊎ (is_named_in t d ≡ true)
+pub linked_way : (t : Store) (d : ℕ) → is_linked_in t d ≡ true → ((d == 1) ≡ true) ⊎ (is_named_in t d ≡ true)
 linked_way t d h = by (d == 1) h
   where
     by : (b : Bool) → (b || is_named_in t d) ≡ true → (b ≡ true) ⊎ (is_named_in t d ≡ true)
     by true e = inl refl
     by false e = inr e
 
-linked_root : (t : Store) (d : ℕ) → (d == 1) ≡ true → is_linked_in t d ≡ true
+pub linked_root : (t : Store) (d : ℕ) → (d == 1) ≡ true → is_linked_in t d ≡ true
 linked_root t d h = ap (λ b. b || is_named_in t d) h
 
-linked_named : (t : Store) (d : ℕ) → is_named_in t d ≡ true → is_linked_in t d ≡ true
+pub linked_named : (t : Store) (d : ℕ) → is_named_in t d ≡ true → is_linked_in t d ≡ true
 linked_named t d h = by (d == 1) (is_named_in t d) h
   where
     by : (a b : Bool) → b ≡ true → (a || b) ≡ true
     by true b e = refl
     by false b e = e
 
-abbrev inode_of : Option NameEntry → ℕ
+abbrev pub inode_of : Option NameEntry → ℕ
 inode_of (Some (Ino i)) = i
 inode_of (Some White) = 0
 inode_of None = 0
 
-abbrev name_or : Option (List ℕ) → List ℕ
+abbrev pub name_or : Option (List ℕ) → List ℕ
 name_or (Some n) = n
 name_or None = []
 
@@ -107,11 +107,11 @@ no_node : (o : Option Node) (i : ℕ) → (IsSome o → i < i) → o ≡ None
 no_node None i h = refl
 no_node (Some x) i h = absurd (let less = h refl in omega (arith, less))
 
-some_stays : (o r : Option Kind) → ((k : Kind) → o ≡ Some k → r ≡ Some k) → IsSome o → IsSome r
+pub some_stays : (o r : Option Kind) → ((k : Kind) → o ≡ Some k → r ≡ Some k) → IsSome o → IsSome r
 some_stays (Some k) r stay h = ap is_some (stay k refl)
 some_stays None r stay h = no_way h
 
-abbrev kind_at : Store → ℕ → Option Kind
+abbrev pub kind_at : Store → ℕ → Option Kind
 kind_at t i = option_map kind_of_node (get t.nodes i)
 
 module _ (t : Store) (u : ℕ) (n : List ℕ) (node : Node) (parent : ℕ) (opaque : Bool) (names : Names)
@@ -140,7 +140,7 @@ module _ (t : Store) (u : ℕ) (n : List ℕ) (node : Node) (parent : ℕ) (opaq
       subst (λ (m : FinMap nat_cmp Node). P (get m d)) (sym nodes)
       (by_key nat_cmp_total exact_unsigned (insert t.nodes t.next node) u over d P here (by_key nat_cmp_total exact_unsigned t.nodes t.next node d P there else))
 
-  node_new : get new.nodes t.next ≡ Some node
+  pub node_new : get new.nodes t.next ≡ Some node
   node_new =
       ap (λ (m : FinMap nat_cmp Node). get m t.next) nodes
       ∙ by_key nat_cmp_total exact_unsigned (insert t.nodes t.next node) u over t.next (λ o. o ≡ Some node) (λ e. absurd (apart (sym e))) (get_at-insert nat_cmp_total t.nodes t.next node)
@@ -297,3 +297,32 @@ module _ (t : Store) (u : ℕ) (n : List ℕ) (node : Node) (parent : ℕ) (opaq
   -- the names of the store with the new node are sound
   pub made_names : StoreNames new
   made_names = record { lead = lead; removed = removed; given = given; once = once }
+
+  -- ---- numbers and parents
+
+  pub made_below : AreBelow new.nodes new.next
+  made_below i =
+      node_case i (λ o. IsSome o → i < t.next + 1)
+      (λ same _. let less : u < t.next = below u (ap is_some at) in omega (arith, less, same))
+      (λ same _. omega (arith, same))
+      (λ there. let less : i < t.next = below i there in omega (arith, less))
+
+  parents_stay : (i : ℕ) (o : Option Node) → IfSome (option_and_then (facts_in t i) o) (λ d. IsSome (kind_at t d.parent)) → IfSome (option_and_then (facts_in new i) o) (λ d. IsSome (kind_at new d.parent))
+  parents_stay i (Some (Dir p o ns)) h = some_stays (kind_at t p) (kind_at new p) (kind_stays p) h
+  parents_stay i (Some (File bytes)) h = tt
+  parents_stay i (Some (Link target)) h = tt
+  parents_stay i None h = tt
+
+  fresh_parent : (i : ℕ) (x : Node) → IsFresh u x → IfSome (option_and_then (facts_in new i) (Some x)) (λ d. IsSome (kind_at new d.parent))
+  fresh_parent i (Dir p o ns) h = ap (λ q. is_some (kind_at new q)) h.0 ∙ ap is_some (kind_stays u kind.Dir (ap (option_map kind_of_node) at))
+  fresh_parent i (File bytes) h = tt
+  fresh_parent i (Link target) h = tt
+
+  -- the parent of each directory is there
+  pub made_parents : ((i : ℕ) → IfSome (dir_in t i) (λ d. IsSome (kind_at t d.parent))) → (i : ℕ) → IfSome (dir_in new i) (λ d. IsSome (kind_at new d.parent))
+  made_parents h i =
+      node_case i (λ o. IfSome (option_and_then (facts_in new i) o) (λ d. IsSome (kind_at new d.parent)))
+      (λ same. let own : IsSome (kind_at t parent) = subst (λ o. IfSome (option_and_then (facts_in t u) o) (λ d. IsSome (kind_at t d.parent))) at (h u) in
+      some_stays (kind_at t parent) (kind_at new parent) (kind_stays parent) own)
+      (λ same. fresh_parent i node fresh)
+      (parents_stay i (get t.nodes i) (h i))

@@ -1,5 +1,5 @@
 -- What the calls on mounts leave and need.
-use Rattle.std.proofs.Common.{◌≡◌, ℕ, false, cond, not, ◌==◌, inl, inr, List, refl, ap, sym, ◌∙◌, arith, nat_cmp}
+use Rattle.std.proofs.Common.{◌≡◌, ℕ, false, cond, not, ◌==◌, inl, inr, List, refl, ap, sym, ◌∙◌, subst, arith, nat_cmp}
 use Rattle.std.specs.Prelude.{Option, Some, None, IfSome, IsSome, is_some, nat_lt}
 use Rattle.std.specs.Cmp.{nat_cmp_total, unsigned_ties}
 use Rattle.std.specs.FinMap.{FinMap, get, remove, len, get-remove}
@@ -9,6 +9,7 @@ use Rattle.vfs_tree.specs.Mounts.{has_references, is_covered, is_of}
 use Rattle.vfs_tree.specs.Place.{Seen, Mem, Null, UnionUp, UnionLow, mount_of}
 use Rattle.vfs_tree.specs.Views.{facts_of}
 use Rattle.vfs_tree.specs.declared.walk.Found.{Found}
+use Rattle.vfs_tree.specs.declared.walk.Found.TheVariants as found
 use Rattle.vfs_tree.specs.declared.walk.Leaf.TheVariants as leaf
 use Rattle.vfs_tree.specs.declared.walk.Step.TheVariants.{Go}
 use Rattle.vfs_tree.specs.declared.world.World.{World}
@@ -33,7 +34,9 @@ use Rattle.call_laws.proofs.NeedLaws.{FreeFound}
 use Rattle.call_laws.specs.Leaving.{IsLeaver}
 use Rattle.call_laws.specs.Live.{live}
 use Rattle.call_laws.proofs.LiveCount.{first-live, references_stand, open_references_stand}
-use Rattle.call_laws.proofs.Parts.{Keeps, Any, MakesNode, found_so, refused, needed, weaker, then, unless, check, keeps-place_at, keeps-mount_at, keeps-dir_at}
+use Rattle.call_laws.proofs.Parts.{Keeps, Any, MakesNode, found_so, refused, needed, weaker, then, unless, check, keeps-place_at, keeps-mount_at, keeps-dir_at, Well, keeps-found_mount}
+use Rattle.call_laws.proofs.WalkLaws.{FoundWell}
+use Rattle.call_laws.proofs.Whole.{IsWhole}
 use Rattle.call_laws.proofs.WeightLaws.{get_at-remove}
 use Rattle.call_laws.proofs.NameParts.{Ends, alone-itself, plain}
 
@@ -53,11 +56,12 @@ pub done_so : (r : Reply) → is_fail r ≡ false → is_no_memory r ≡ false
 done_so (reply.Fail e) h = cc
 done_so _ h = refl
 
--- a shadow directory is made where the upper layer has nothing
+-- a shadow directory or a copy is made where the upper layer has nothing, and a mount is detached that isn't the first and
+-- isn't covered
 abbrev pub FreeInner : World → Inner → Type 0
 FreeInner w (Shadow m u n) = IsFree (facts_of w) m u n
-FreeInner w (CopyUp m u n) = Unit {0}
-FreeInner w (Detach m) = Unit {0}
+FreeInner w (CopyUp m u n) = IsWhole w → IsFree (facts_of w) m u n
+FreeInner w (Detach m) = ((m == 0) ≡ false) × (is_covered w m ≡ false) × (IsWhole w → IsSome (get w.mounts m))
 FreeInner w (Doom at) = Unit {0}
 
 -- what a call needs
@@ -66,7 +70,7 @@ Needed w c call x = MayNeed w c call x × FreeInner w x
 
 pub may_make : (w : World) (c : ℕ) (call : Call) (x : Inner) → MakesNode w x → Needed w c call x
 may_make w c call (Shadow m u n) h = (h.0, h.1)
-may_make w c call (CopyUp m u n) h = (h, tt)
+may_make w c call (CopyUp m u n) h = (h.0, h.1)
 may_make w c call (Detach m) h = absurd h
 may_make w c call (Doom at) h = absurd h
 
@@ -150,21 +154,24 @@ keeps-doom_next : (w : World) (c m : ℕ) (p : List ℕ) → IsSome (get w.leavi
 keeps-doom_next w c m p leaving (Some at) h = needed ((h, inl leaving), tt)
 keeps-doom_next w c m p leaving None h = found_so (left_force w c m p)
 
-keeps-detach_first : (w : World) (c : ℕ) (p : List ℕ) (a : Found) → FreeFound (facts_of w) a → get w.leaving c ≡ None → check_way (way leaf.Mount p) ≡ Go tt
+mount_there : (w : World) (a : Found) (m : ℕ) → Well w a → a ≡ found.Mount m → IsWhole w → IsSome (get w.mounts m)
+mount_there w a m well is h = subst (FoundWell (facts_of w)) is (well h)
+
+keeps-detach_first : (w : World) (c : ℕ) (p : List ℕ) (a : Found) → FreeFound (facts_of w) a → Well w a → get w.leaving c ≡ None → check_way (way leaf.Mount p) ≡ Go tt
     → Keeps (Left w c (call.UmountForce p)) (Needed w c (call.UmountForce p)) (rows.detach_first w a)
-keeps-detach_first w c p a fa none lawful =
-    then (mount_at w a) (weaker (mount_at w a) (λ _ h. h) (may_make w c (call.UmountForce p)) (keeps-mount_at w a fa)) (λ m _.
-    unless (m == 0) _ (λ _. unless (is_covered w m) _ (λ _. needed ((none, lawful), tt))))
+keeps-detach_first w c p a fa wa none lawful =
+    then (mount_at w a) (weaker (mount_at w a) (λ _ h. h) (may_make w c (call.UmountForce p)) (keeps-found_mount w a fa)) (λ m is.
+    unless (m == 0) _ (λ other. unless (is_covered w m) _ (λ free. needed ((none, lawful), (other, free, mount_there w a m wa is)))))
 
-keeps-umount_by : (w : World) (c : ℕ) (p : List ℕ) (a : Found) → FreeFound (facts_of w) a → check_way (way leaf.Mount p) ≡ Go tt → (o : Option ℕ) → get w.leaving c ≡ o
+keeps-umount_by : (w : World) (c : ℕ) (p : List ℕ) (a : Found) → FreeFound (facts_of w) a → Well w a → check_way (way leaf.Mount p) ≡ Go tt → (o : Option ℕ) → get w.leaving c ≡ o
     → Keeps (Left w c (call.UmountForce p)) (Needed w c (call.UmountForce p)) (rows.umount_by w c a o)
-keeps-umount_by w c p a fa lawful (Some m) is =
+keeps-umount_by w c p a fa wa lawful (Some m) is =
     keeps-doom_next w c m p (ap is_some is) (first_in w m) (first-live w (λ r. is_of w.mounts m (mount_of r.place)) (references w) (references_stand w))
-keeps-umount_by w c p a fa lawful None is = keeps-detach_first w c p a fa is lawful
+keeps-umount_by w c p a fa wa lawful None is = keeps-detach_first w c p a fa wa is lawful
 
-pub keeps-umount_force : (w : World) (c : ℕ) (p : List ℕ) (a : Found) → FreeFound (facts_of w) a → check_way (way leaf.Mount p) ≡ Go tt
+pub keeps-umount_force : (w : World) (c : ℕ) (p : List ℕ) (a : Found) → FreeFound (facts_of w) a → Well w a → check_way (way leaf.Mount p) ≡ Go tt
     → Keeps (Left w c (call.UmountForce p)) (Needed w c (call.UmountForce p)) (rows.umount_force w c a)
-keeps-umount_force w c p a fa lawful = keeps-umount_by w c p a fa lawful (get w.leaving c) refl
+keeps-umount_force w c p a fa wa lawful = keeps-umount_by w c p a fa wa lawful (get w.leaving c) refl
 
 -- ---- revoke(2)
 

@@ -18,6 +18,7 @@ use Rattle.vfs_tree.specs.declared.node.Store.{Store}
 use Rattle.vfs_tree.specs.declared.walk.Child.{Child}
 use Rattle.vfs_tree.specs.declared.walk.Child.TheVariants as child
 use Rattle.vfs_tree.specs.declared.walk.Found.{Found}
+use Rattle.vfs_tree.specs.declared.walk.Found.TheVariants as found
 use Rattle.vfs_tree.specs.declared.world.World.{World}
 use Rattle.call_model.specs.Checks.{lifted, copied, place_at, target_at, there, dir_at, free_target, node_of, edit_at, has_white, make_at, drop_at, is_full}
 use Rattle.call_model.specs.NameRows as rows
@@ -30,7 +31,7 @@ use Rattle.call_model.specs.NameEdits.{is_fail}
 use Rattle.call_laws.proofs.FlagLaws.{no_flag, no_flag-cwd}
 use Rattle.call_laws.proofs.NeedLaws.{FreeChild, FreeFound, free-low, free-has_visible}
 use Rattle.call_laws.proofs.LiveCount.{live_opens, live_cwds, live-parts, cwds-insert}
-use Rattle.call_laws.proofs.Parts.{Keeps, Any, MakesNode, found_so, refused, then, unless, check, keeps-shadow, keeps-lifted, keeps-copied, keeps-place_at, keeps-target_at, keeps-there, keeps-dir_at, keeps-free_target}
+use Rattle.call_laws.proofs.Parts.{Keeps, Any, MakesNode, found_so, refused, then, unless, check, keeps-shadow, keeps-lifted, keeps-copied, keeps-place_at, keeps-target_at, keeps-there, keeps-dir_at, keeps-free_target, Ready, Well, ready_at, ready_in, keeps-found_at, keeps-found_in, keeps-there_at}
 
 -- ---- worlds
 
@@ -97,16 +98,16 @@ keeps-unlink w a fa =
     then (there t.child) (keeps-there t.child) (λ p _.
     unless (is_dir (facts_of w) p) _ (λ _. found_so (plain-drop w t.dir t.name, refl))))
 
-pub keeps-link : (w : World) (a b : Found) → FreeFound (facts_of w) a → FreeFound (facts_of w) b → Keeps (Ends w) (MakesNode w) (rows.link w a b)
-keeps-link w a b fa fb =
-    then (place_at w a) (keeps-place_at w a fa) (λ p _.
+pub keeps-link : (w : World) (a b : Found) → FreeFound (facts_of w) a → FreeFound (facts_of w) b → Well w a → Keeps (Ends w) (MakesNode w) (rows.link w a b)
+keeps-link w a b fa fb wa =
+    then (place_at w a) (keeps-found_at w a fa) (λ p is.
     unless (is_dir (facts_of w) p) _ (λ _.
     then (free_target w b) (keeps-free_target w b fb) (λ t _.
     unless (not (mount_of p == mount_of t.dir)) _ (λ _.
-    then (copied w p) (keeps-copied w p) (λ _ _.
+    then (copied w p) (keeps-copied w p (ready_at w a p wa is)) (λ _ _.
     found_so (plain w _ (alone-edit w t.dir (λ s dir. set_entry s dir t.name (Ino (base (facts_of w) p).ino))), refl))))))
 
-keeps-check_text : (w : World) (text : List ℕ) → Keeps Any (MakesNode w) (rows.check_text text)
+pub keeps-check_text : (w : World) (text : List ℕ) → Keeps Any (MakesNode w) (rows.check_text text)
 keeps-check_text w text = unless (is_empty text) _ (λ _. unless (has_zero text) _ (λ _. check (nat_lt 1023 (length text)) _))
 
 pub keeps-symlink : (w : World) (text : List ℕ) (a : Found) → FreeFound (facts_of w) a → Keeps (Ends w) (MakesNode w) (rows.symlink w text a)
@@ -162,23 +163,23 @@ keeps-check_replaced : (w : World) (moves_dir : Bool) (o : Option Seen) → Keep
 keeps-check_replaced w moves_dir (Some p) = keeps-check_kinds moves_dir (is_dir (facts_of w) p) w p
 keeps-check_replaced w moves_dir None = found_so tt
 
-keeps-rename_apart : (w : World) (source d : Seen) (n : List ℕ) (new : Target) → Keeps (Ends w) (MakesNode w) (rows.rename_apart w source d n new)
-keeps-rename_apart w source d n new =
+keeps-rename_apart : (w : World) (source d : Seen) (n : List ℕ) (new : Target) → Ready w source → Keeps (Ends w) (MakesNode w) (rows.rename_apart w source d n new)
+keeps-rename_apart w source d n new ready =
     then (rows.check_source (is_dir (facts_of w) source) w source new.dir) (keeps-check_source (is_dir (facts_of w) source) w source new.dir) (λ _ _.
     then (rows.check_replaced w (is_dir (facts_of w) source) new.child) (keeps-check_replaced w (is_dir (facts_of w) source) new.child) (λ _ _.
-    then (copied w source) (keeps-copied w source) (λ _ _.
+    then (copied w source) (keeps-copied w source ready) (λ _ _.
     found_so (plain w (rows.renamed_at w d n new) (alone-edit w d (λ t from. renamed (is_in_union d) (is_in_union new.dir) t from n (base (facts_of w) new.dir).ino new.name)), refl))))
 
-keeps-rename_case : (b : Bool) (w : World) (source d : Seen) (n : List ℕ) (new : Target) → Keeps (Ends w) (MakesNode w) (rows.rename_case b w source d n new)
-keeps-rename_case true w source d n new = found_so (plain w w (alone-itself w), refl)
-keeps-rename_case false w source d n new = keeps-rename_apart w source d n new
+keeps-rename_case : (b : Bool) (w : World) (source d : Seen) (n : List ℕ) (new : Target) → Ready w source → Keeps (Ends w) (MakesNode w) (rows.rename_case b w source d n new)
+keeps-rename_case true w source d n new ready = found_so (plain w w (alone-itself w), refl)
+keeps-rename_case false w source d n new ready = keeps-rename_apart w source d n new ready
 
-pub keeps-rename : (w : World) (a b : Found) → FreeFound (facts_of w) a → FreeFound (facts_of w) b → Keeps (Ends w) (MakesNode w) (rows.rename w a b)
-keeps-rename w a b fa fb =
-    then (target_at w errno.EINVAL a) (keeps-target_at w errno.EINVAL a fa) (λ old _.
-    then (there old.child) (keeps-there old.child) (λ source _.
+pub keeps-rename : (w : World) (a b : Found) → FreeFound (facts_of w) a → FreeFound (facts_of w) b → Well w a → Keeps (Ends w) (MakesNode w) (rows.rename w a b)
+keeps-rename w a b fa fb wa =
+    then (target_at w errno.EINVAL a) (keeps-found_in w errno.EINVAL a fa) (λ old is.
+    then (there old.child) (keeps-there_at old.child) (λ source has.
     then (target_at w errno.EINVAL b) (keeps-target_at w errno.EINVAL b fb) (λ new _.
-    unless (not (mount_of old.dir == mount_of new.dir)) _ (λ _. keeps-rename_case (rows.is_there source new.child) w source old.dir old.name new))))
+    unless (not (mount_of old.dir == mount_of new.dir)) _ (λ _. keeps-rename_case (rows.is_there source new.child) w source old.dir old.name new (ready_in w a old.dir source old.name wa (is ∙ ap (found.In old.dir old.name) has))))))
 
 -- ---- what is known of a file
 

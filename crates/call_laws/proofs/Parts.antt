@@ -1,9 +1,10 @@
 -- What the parts of calls come to.
-use Rattle.std.proofs.Common.{◌≡◌, ℕ, Bool, true, false, not, List, refl}
+use Rattle.std.proofs.Common.{◌≡◌, ℕ, suc, Bool, true, false, not, List, refl, subst}
 use Rattle.std.specs.Prelude.{Option, Some, None, is_some}
+use Rattle.vfs_tree.specs.Facts.{Facts}
 use Rattle.vfs_tree.specs.Layers.{is_dir}
 use Rattle.vfs_tree.specs.Paths.{Path, parse, is_empty, has_zero, is_too_long}
-use Rattle.vfs_tree.specs.Place.{Seen, Mem, Null, UnionUp, UnionLow, bare}
+use Rattle.vfs_tree.specs.Place.{Seen, Mem, Null, UnionUp, UnionLow, bare, mount_of}
 use Rattle.vfs_tree.specs.Steps.{◌>>=◌, ◌>>◌, refuse_if}
 use Rattle.vfs_tree.specs.Views.{facts_of}
 use Rattle.vfs_tree.specs.declared.errno.Errno.{Errno}
@@ -19,7 +20,10 @@ use Rattle.call_model.specs.Rows.{Way, check_way}
 use Rattle.call_model.specs.declared.entry.Inner.{Inner}
 use Rattle.call_model.specs.declared.entry.Inner.TheVariants.{Shadow, CopyUp, Detach, Doom}
 use Rattle.call_laws.specs.Needing.{IsFree}
+use Rattle.call_laws.proofs.FoundLaws.{IsReady, ReadyChild, ready-within}
 use Rattle.call_laws.proofs.NeedLaws.{FreeNeed, Free, FreeFound}
+use Rattle.call_laws.proofs.WalkLaws.{IsTarget, FoundWell}
+use Rattle.call_laws.proofs.Whole.{IsWhole}
 
 -- what a part finds has the one property, and what it needs the other
 abbrev pub Holds : {A : Type 0} → (A → Type 0) → (Inner → Type 0) → Doing A → Type 0
@@ -66,10 +70,11 @@ pub check : {N : Inner → Type 0} (b : Bool) (e : Errno) → Keeps Any N (refus
 check true e = refused
 check false e = found_so tt
 
--- a node that is made where a number is left for it; a shadow directory, where the upper layer has nothing
+-- a node that is made where a number is left for it, and where the upper layer has nothing: of a copy this is known in
+-- a sound world that lasts
 abbrev pub MakesNode : World → Inner → Type 0
 MakesNode w (Shadow m u n) = (is_full w (upper_store w m) ≡ false) × IsFree (facts_of w) m u n
-MakesNode w (CopyUp m u n) = is_full w (upper_store w m) ≡ false
+MakesNode w (CopyUp m u n) = (is_full w (upper_store w m) ≡ false) × (IsWhole w → IsFree (facts_of w) m u n)
 MakesNode w (Detach m) = ⊥
 MakesNode w (Doom at) = ⊥
 
@@ -81,14 +86,37 @@ keeps-lifted w (Go a) free = found_so tt
 keeps-lifted w (Refuse e) free = refused
 keeps-lifted w (Wants x) free = keeps-shadow w x free
 
-keeps-copied_place : (w : World) (p : Seen) → Keeps Any (MakesNode w) (copied_place w p)
-keeps-copied_place w (Mem m i) = found_so tt
-keeps-copied_place w (Null m p) = found_so tt
-keeps-copied_place w (UnionUp m i) = found_so tt
-keeps-copied_place w (UnionLow m u n p) = unless (is_full w (upper_store w m)) _ (λ e. needed e)
+-- a place whose name is free in the upper layer, in a sound world that lasts
+abbrev pub Ready : World → Seen → Type 0
+Ready w p = IsWhole w → IsReady (facts_of w) p
 
-pub keeps-copied : (w : World) (p : Seen) → Keeps Any (MakesNode w) (copied w p)
-keeps-copied w p = keeps-copied_place w (bare p)
+pub ready_bare : (f : Facts) (p : Seen) → IsReady f p → IsReady f (bare p)
+ready_bare f (Mem m i) h = h
+ready_bare f (Null m p) h = ready_bare f p h
+ready_bare f (UnionUp m i) h = h
+ready_bare f (UnionLow m u n p) h = h
+
+keeps-copied_place : (w : World) (p : Seen) → Ready w p → Keeps Any (MakesNode w) (copied_place w p)
+keeps-copied_place w (Mem m i) ready = found_so tt
+keeps-copied_place w (Null m p) ready = found_so tt
+keeps-copied_place w (UnionUp m i) ready = found_so tt
+keeps-copied_place w (UnionLow m u n p) ready = unless (is_full w (upper_store w m)) _ (λ e. needed (e, ready))
+
+pub keeps-copied : (w : World) (p : Seen) → Ready w p → Keeps Any (MakesNode w) (copied w p)
+keeps-copied w p ready = keeps-copied_place w (bare p) (λ h. ready_bare (facts_of w) p (ready h))
+
+-- what is found is well in a sound world that lasts
+abbrev pub Well : World → Found → Type 0
+Well w a = IsWhole w → FoundWell (facts_of w) a
+
+pub ready_at : (w : World) (a : Found) (p : Seen) → Well w a → a ≡ found.At p → Ready w p
+ready_at w a p well is h = let end : FoundWell (facts_of w) (found.At p) = subst (FoundWell (facts_of w)) is (well h) in end.good.ready
+
+ready_child : (f : Facts) (d p : Seen) (n : List ℕ) → IsTarget f d n (Some p) → IsReady f p
+ready_child f d p n t = subst (ReadyChild f) t.child (ready-within (suc (mount_of d)) f d n)
+
+pub ready_in : (w : World) (a : Found) (d p : Seen) (n : List ℕ) → Well w a → a ≡ found.In d n (Some p) → Ready w p
+ready_in w a d p n well is h = let t : FoundWell (facts_of w) (found.In d n (Some p)) = subst (FoundWell (facts_of w)) is (well h) in ready_child (facts_of w) d p n t
 
 -- ---- what a walk found
 
@@ -96,6 +124,24 @@ pub keeps-place_at : (w : World) (a : Found) → FreeFound (facts_of w) a → Ke
 keeps-place_at w (found.At p) free = found_so tt
 keeps-place_at w (found.Need x) free = keeps-shadow w x free
 keeps-place_at w _ free = refused
+
+-- the place that is found
+pub keeps-found_at : (w : World) (a : Found) → FreeFound (facts_of w) a → Keeps (λ p. a ≡ found.At p) (MakesNode w) (place_at w a)
+keeps-found_at w (found.At p) free = found_so refl
+keeps-found_at w (found.Need x) free = keeps-shadow w x free
+keeps-found_at w _ free = refused
+
+-- the name that is found, and what stands at it
+pub keeps-found_in : (w : World) (dot : Errno) (a : Found) → FreeFound (facts_of w) a → Keeps (λ t. a ≡ found.In t.dir t.name t.child) (MakesNode w) (target_at w dot a)
+keeps-found_in w dot (found.In d n c) free = found_so refl
+keeps-found_in w dot (found.Need x) free = keeps-shadow w x free
+keeps-found_in w dot _ free = refused
+
+-- the mount that is found
+pub keeps-found_mount : (w : World) (a : Found) → FreeFound (facts_of w) a → Keeps (λ m. a ≡ found.Mount m) (MakesNode w) (mount_at w a)
+keeps-found_mount w (found.Mount m) free = found_so refl
+keeps-found_mount w (found.Need x) free = keeps-shadow w x free
+keeps-found_mount w _ free = refused
 
 pub keeps-mount_at : (w : World) (a : Found) → FreeFound (facts_of w) a → Keeps Any (MakesNode w) (mount_at w a)
 keeps-mount_at w (found.Mount m) free = found_so tt
@@ -110,6 +156,10 @@ keeps-target_at w dot _ free = refused
 pub keeps-there : {N : Inner → Type 0} (o : Option Seen) → Keeps Any N (there o)
 keeps-there (Some p) = found_so tt
 keeps-there None = refused
+
+pub keeps-there_at : {N : Inner → Type 0} (o : Option Seen) → Keeps (λ p. o ≡ Some p) N (there o)
+keeps-there_at (Some p) = found_so refl
+keeps-there_at None = refused
 
 pub keeps-dir_at : (w : World) (a : Found) → FreeFound (facts_of w) a → Keeps Any (MakesNode w) (dir_at w a)
 keeps-dir_at w a free = then (place_at w a) (keeps-place_at w a free) (λ p _. unless (not (is_dir (facts_of w) p)) _ (λ _. found_so tt))

@@ -54,19 +54,19 @@ sound-stores w stores h names stays =
     }
 
 -- a directory of a store
-record IsDirAt (o : Option Node) : Type 0 where
+pub record IsDirAt (o : Option Node) : Type 0 where
   pub parent : ℕ
   pub opaque : Bool
   pub names : Names
   pub at : o ≡ Some (Dir parent opaque names)
 
-dir_at : (t : Store) (u : ℕ) (o : Option Node) → linked_by (option_and_then (facts_in t u) o) ≡ true → IsDirAt o
+pub dir_at : (t : Store) (u : ℕ) (o : Option Node) → linked_by (option_and_then (facts_in t u) o) ≡ true → IsDirAt o
 dir_at t u (Some (Dir parent opaque names)) h = record { parent = parent; opaque = opaque; names = names; at = refl }
 dir_at t u (Some (File bytes)) h = no_way h
 dir_at t u (Some (Link target)) h = no_way h
 dir_at t u None h = no_way h
 
-link_at : (t : Store) (u : ℕ) (o : Option Node) → linked_by (option_and_then (facts_in t u) o) ≡ true → is_linked_in t u ≡ true
+pub link_at : (t : Store) (u : ℕ) (o : Option Node) → linked_by (option_and_then (facts_in t u) o) ≡ true → is_linked_in t u ≡ true
 link_at t u (Some (Dir parent opaque names)) h = h
 link_at t u (Some (File bytes)) h = no_way h
 link_at t u (Some (Link target)) h = no_way h
