@@ -6,7 +6,7 @@ use Rattle.call_model.specs.declared.call.Call.{Call}
 use Rattle.call_model.specs.declared.call.Call.TheVariants as call
 use Rattle.plain_checks.specs.declared.stop.Stop.{Stop}
 use Rattle.plain_checks.specs.declared.stop.Stop.TheVariants.{Refused, Needs, NoMemory}
-use Rattle.plain_data.specs.Decided.{IsDecided}
+use Rattle.plain_names.specs.Decided.{IsDecided}
 use Rattle.plain_calls.specs.Answering.{HasMemory, HoldsBytes, NeedsNoMemory}
 
 decided : (why : Stop) → IsDecided why → why ≡ NoMemory → ⊥

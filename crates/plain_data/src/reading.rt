@@ -2,7 +2,7 @@ ghost use Rattle.std.specs.Prelude.{◌≡◌, ◌+◌, ◌≤◌, ◌<◌, ◌^
 ghost use Rattle.vfs_tree.specs.Nodes.{IsNumbered};
 ghost use Rattle.call_model.specs.DataRows as rows;
 ghost use Rattle.plain_checks.specs.Coming.{Answers, Comes};
-ghost use Rattle.plain_data.specs.Decided.{IsDecided};
+ghost use Rattle.plain_names.specs.Decided.{IsDecided};
 
 use crate::descriptors::{descriptor, set_offset};
 use crate::room::Room;
