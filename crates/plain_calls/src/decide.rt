@@ -4,9 +4,12 @@ ghost use Rattle.std.specs.FinMap as map;
 ghost use Rattle.vfs_tree.specs.Nodes.{IsNumbered};
 ghost use Rattle.call_model.specs.Rows.{decided};
 ghost use Rattle.plain_checks.specs.Coming.{Answers};
+ghost use Rattle.plain_calls.specs.Answering.{HasMemory, HasRoomFor, NeedsNoMemory};
 
+use crate::reading::{pread, read};
 use call_model::Call;
 use plain_checks::{Answer, Stop};
+use plain_data::Room;
 use std::alloc::Global;
 use vfs_tree::{Found, World};
 
@@ -18,10 +21,13 @@ pub fn decide(
     call: &Call,
     first: Found,
     second: Found,
+    room: Option<Room>,
 ) -> Result<Answer, Stop>
     requires numbered { IsNumbered world.old }
     requires stays { map.get world.old.leaving caller ≡ None }
+    requires room { HasRoomFor call.now room }
     ensures answered { Answers (decided world.old caller call.now first second) world.old world.new result }
+    ensures reserved { NeedsNoMemory call.now → HasMemory result }
     ensures kept { IsNumbered world.new }
 {
     match call {
@@ -29,8 +35,8 @@ pub fn decide(
         Call::Rmdir { .. } => plain_names::rmdir(alloc, world, first),
         Call::Open { f, .. } => plain_data::open(alloc, world, caller, *f, first),
         Call::Close { d } => plain_data::close(world, caller, *d),
-        Call::Read { d, n } => plain_data::read(alloc, world, caller, *d, *n),
-        Call::Pread { d, n, o } => plain_data::pread(alloc, world, caller, *d, *n, *o),
+        Call::Read { d, n } => read(alloc, world, caller, *d, *n, room),
+        Call::Pread { d, n, o } => pread(alloc, world, caller, *d, *n, *o, room),
         Call::Write { d, w } => plain_data::write(world, caller, *d, w.as_slice()),
         Call::Pwrite { d, o, w } => plain_data::pwrite(world, caller, *d, w.as_slice(), *o),
         Call::Lseek { d, h, i } => plain_data::lseek(world, caller, *d, *h, *i),

@@ -6,6 +6,7 @@
 
 mod answer;
 mod decide;
+mod reading;
 mod ways;
 
 pub use answer::answer_call;

@@ -1,5 +1,5 @@
 // The paths of a call, how each is walked, and what it finds.
-ghost use Rattle.std.specs.Prelude.{◌≡◌, IfOk, IfErr};
+ghost use Rattle.std.specs.Prelude.{◌≡◌, None, IsOk, IfOk, IfErr};
 ghost use Rattle.call_model.specs.Rows.{way, open_leaf, first_way, second_way, check_way, found_at};
 ghost use Rattle.plain_checks.specs.Coming.{Comes};
 ghost use Rattle.plain_calls.specs.Answering.{way_of};
@@ -75,7 +75,8 @@ fn check_path(alloc: Global, leaf: Leaf, text: &[u8]) -> Result<(), Stop>
 
 /// Why a path that a call may have is none.
 pub fn check_way(alloc: Global, way: Option<(Leaf, &[u8])>) -> Result<(), Stop>
-    ensures { Comes (check_way (way_of way.entry)) result }
+    ensures comes { Comes (check_way (way_of way.entry)) result }
+    ensures sure { way_of way.entry ≡ None → IsOk result }
 {
     match way {
         Some((leaf, text)) => check_path(alloc, leaf, text),
@@ -106,6 +107,7 @@ pub fn found_at(
 ) -> Result<Found, Stop>
     ensures found { IfOk result (λ found. found ≡ found_at world.now caller (way_of way.entry)) }
     ensures lacks { IfErr result (λ why. why ≡ Stop.NoMemory) }
+    ensures sure { way_of way.entry ≡ None → IsOk result }
 {
     match way {
         Some((leaf, text)) => made(found_along(alloc, world, caller, leaf, text)),

@@ -3,7 +3,7 @@ ghost use Rattle.vfs_tree.specs.Nodes.{IsNumbered};
 ghost use Rattle.vfs_tree.specs.declared.walk.Step.TheVariants.{Go};
 ghost use Rattle.call_model.specs.DataRows as rows;
 ghost use Rattle.plain_checks.specs.Coming.{Answers, Comes, Stops};
-ghost use Rattle.plain_data.specs.Decided.{IsDecided};
+ghost use Rattle.plain_names.specs.Decided.{IsDecided};
 
 use finite_maps::Duplicate;
 use plain_checks::{Answer, Stop, made};

@@ -8,6 +8,7 @@ mod length;
 mod listing;
 mod opening;
 mod reading;
+mod room;
 mod seek;
 #[cfg(test)]
 mod tests;
@@ -19,5 +20,6 @@ pub use length::{ftruncate, resize_at, truncate};
 pub use listing::readdir;
 pub use opening::open;
 pub use reading::{pread, read};
+pub use room::Room;
 pub use seek::lseek;
 pub use writing::{pwrite, write};

@@ -4,7 +4,7 @@ ghost use Rattle.call_model.specs.Checks as checks;
 ghost use Rattle.call_model.specs.DataRows as rows;
 ghost use Rattle.call_model.specs.NameRows.{size_in, size_of};
 ghost use Rattle.plain_checks.specs.Coming.{Answers, Comes};
-ghost use Rattle.plain_data.specs.Decided.{IsDecided};
+ghost use Rattle.plain_names.specs.Decided.{IsDecided};
 
 use crate::descriptors::{descriptor, set_offset};
 use call_model::Whence;

@@ -2,7 +2,8 @@ ghost use Rattle.std.specs.Prelude.{IfOk};
 ghost use Rattle.vfs_tree.specs.Nodes.{IsNumbered};
 
 use crate::{
-    close, fchdir, fstat, ftruncate, lseek, open, pread, pwrite, read, readdir, truncate, write,
+    Room, close, fchdir, fstat, ftruncate, lseek, open, pread, pwrite, read, readdir, truncate,
+    write,
 };
 use call_model::{Access, Flags, Reply, Whence};
 use plain_checks::{Answer, Stop};
@@ -75,8 +76,18 @@ fn what_is_written_is_read(rt: HostRuntime) -> Result<(), Fail> {
     assert!(rt; matches!(answer.reply, Reply::Count { n: 3 }));
     let answer = lseek(&mut world, 1, 0, Whence::End, -3)?;
     assert!(rt; matches!(answer.reply, Reply::Offset { at: 0 }));
-    assert!(rt; gives(&read(alloc, &mut world, 1, 0, 2)?, b"ab"));
-    assert!(rt; gives(&read(alloc, &mut world, 1, 0, 2)?, b"c"));
+    assert!(rt;
+        gives(
+            &read(alloc, &mut world, 1, 0, 2, Room::new(alloc, 2)?)?,
+            b"ab"
+        )
+    );
+    assert!(rt;
+        gives(
+            &read(alloc, &mut world, 1, 0, 2, Room::new(alloc, 2)?)?,
+            b"c"
+        )
+    );
     Ok(())
 }
 
@@ -86,7 +97,12 @@ fn the_offset_stays(rt: HostRuntime) -> Result<(), Fail> {
     let mut world = with_file(alloc, BOTH)?;
     let answer = pwrite(&mut world, 1, 0, b"xy", 1)?;
     assert!(rt; matches!(answer.reply, Reply::Count { n: 2 }));
-    assert!(rt; gives(&pread(alloc, &world, 1, 0, 9, 0)?, b"\0xy"));
+    assert!(rt;
+        gives(
+            &pread(alloc, &world, 1, 0, 9, 0, Room::new(alloc, 9)?)?,
+            b"\0xy"
+        )
+    );
     let answer = lseek(&mut world, 1, 0, Whence::Cur, 0)?;
     assert!(rt; matches!(answer.reply, Reply::Offset { at: 0 }));
     Ok(())
@@ -103,7 +119,12 @@ fn appended_bytes_go_to_the_end(rt: HostRuntime) -> Result<(), Fail> {
     write(&mut world, 1, 0, b"a")?;
     lseek(&mut world, 1, 0, Whence::Set, 0)?;
     write(&mut world, 1, 0, b"b")?;
-    assert!(rt; gives(&pread(alloc, &world, 1, 0, 9, 0)?, b"ab"));
+    assert!(rt;
+        gives(
+            &pread(alloc, &world, 1, 0, 9, 0, Room::new(alloc, 9)?)?,
+            b"ab"
+        )
+    );
     Ok(())
 }
 

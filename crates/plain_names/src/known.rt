@@ -1,9 +1,10 @@
-ghost use Rattle.std.specs.Prelude.{◌≡◌};
+ghost use Rattle.std.specs.Prelude.{◌≡◌, IfErr};
 ghost use Rattle.vfs_tree.specs.Layers.{kind_in};
 ghost use Rattle.vfs_tree.specs.Views.{facts_of};
 ghost use Rattle.call_model.specs.Checks as checks;
 ghost use Rattle.call_model.specs.NameRows as rows;
 ghost use Rattle.plain_checks.specs.Coming.{Answers, Replies};
+ghost use Rattle.plain_names.specs.Decided.{IsDecided};
 
 use call_model::MountWord;
 use plain_checks::{Answer, Stop, place_at};
@@ -17,9 +18,10 @@ fn size_of(bytes: &Bytes) -> u32
     bytes.len().min(4294967295) as u32
 }
 
-/// The kind and size of a place, as stat(2) gives them; ENOENT where no node is there.
+/// The kind and size of a place, as stat(2) gives them; ENOENT where no node is there. It never wants memory.
 pub fn stat_of(world: &World, place: &Place) -> Result<Answer, Stop>
-    ensures { Replies (rows.stat_of (checks.node_of world.now place.now)) result }
+    ensures replies { Replies (rows.stat_of (checks.node_of world.now place.now)) result }
+    ensures sure { IfErr result IsDecided }
 {
     let at = base(world, place);
     match world.node(at.store, at.ino) {

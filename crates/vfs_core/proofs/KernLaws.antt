@@ -70,19 +70,19 @@ len-insert_new m k v none = len-insert nat_cmp_total m k v ∙ ap (λ o. cond (i
 
 -- ---- what is pending
 
-insert-each : (P : ℕ → Option Call → Type 0) (m : Pending) (k : ℕ) (v : Call) → P k (Some v) → ((c : ℕ) → P c (get m c)) → (c : ℕ) → P c (get (insert m k v) c)
+pub insert-each : (P : ℕ → Option Call → Type 0) (m : Pending) (k : ℕ) (v : Call) → P k (Some v) → ((c : ℕ) → P c (get m c)) → (c : ℕ) → P c (get (insert m k v) c)
 insert-each P m k v here there c = by_key nat_cmp_total exact_unsigned m k v c (P c) (λ e. subst (λ x. P x (Some v)) (sym e) here) (there c)
 
 apart_test : (d c : ℕ) → eq_by_cmp nat_cmp d c ≡ (d == c)
 apart_test d c = sym (unsigned_ties d c)
 
-removed_same : (m : Pending) (c d : ℕ) → d ≡ c → get (remove m c) d ≡ None
+pub removed_same : {X : Type 0} (m : FinMap nat_cmp X) (c d : ℕ) → d ≡ c → get (remove m c) d ≡ None
 removed_same m c d e = get-remove nat_cmp_total m c d ∙ ap (λ b. cond b None (get m d)) (apart_test d c ∙ elim (eqb_tells d c) [ inl h ↦ h.0 | inr h ↦ absurd (h.1 e) ])
 
-removed_other : (m : Pending) (c d : ℕ) → (d == c) ≡ false → get (remove m c) d ≡ get m d
+pub removed_other : {X : Type 0} (m : FinMap nat_cmp X) (c d : ℕ) → (d == c) ≡ false → get (remove m c) d ≡ get m d
 removed_other m c d e = get-remove nat_cmp_total m c d ∙ ap (λ b. cond b None (get m d)) (apart_test d c ∙ e)
 
-remove-each : (P : ℕ → Option Call → Type 0) (m : Pending) (k : ℕ) → P k None → ((c : ℕ) → (c == k) ≡ false → P c (get m c)) → (c : ℕ) → P c (get (remove m k) c)
+pub remove-each : (P : ℕ → Option Call → Type 0) (m : Pending) (k : ℕ) → P k None → ((c : ℕ) → (c == k) ≡ false → P c (get m c)) → (c : ℕ) → P c (get (remove m k) c)
 remove-each P m k gone there c =
     elim (eqb_tells c k) [
       | inl e ↦ subst (P c) (sym (removed_same m k c e.1)) (subst (λ x. P x None) (sym e.1) gone)

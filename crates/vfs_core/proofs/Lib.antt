@@ -1,4 +1,6 @@
 pub mod ComingLaws
 pub mod AdvancingLaws
 pub mod KernLaws
+pub mod RoomLaws
+pub mod SureLaws
 pub mod TurnLaws

@@ -1,11 +1,11 @@
 -- What a call comes to, and how far a step takes it.
-use Rattle.std.specs.Prelude.{ℕ, ◌+◌, ◌≡◌, ◌≤◌, ◌++◌, ◌∷◌, List, [], map, Option, Some, None, IsSome}
+use Rattle.std.specs.Prelude.{ℕ, ◌+◌, ◌≡◌, ◌≤◌, ◌++◌, ◌∷◌, false, List, [], map, Option, Some, None, IsSome}
 use Rattle.std.specs.FinMap.{get}
 use Rattle.vfs_tree.specs.declared.walk.NodeId.{NodeId}
 use Rattle.vfs_tree.specs.declared.walk.Step.TheVariants.{Wants}
 use Rattle.vfs_tree.specs.declared.world.World.{World}
 use Rattle.call_model.specs.Effects.{effect, doomed}
-use Rattle.call_model.specs.Legal.{MayAnswer}
+use Rattle.call_model.specs.Legal.{MayAnswer, is_no_memory}
 use Rattle.call_model.specs.Recorded.{Recorded}
 use Rattle.call_model.specs.Rows.{row}
 use Rattle.call_model.specs.declared.call.Call.{Call}
@@ -27,6 +27,11 @@ use Rattle.vfs_core.specs.declared.answering.Came.TheVariants as came
 abbrev pub ComesTo : World → World → ℕ → Call → Came → Type 0
 ComesTo old new c call (came.Answered a) = MayAnswer old [] c call a.reply new
 ComesTo old new c call (came.Needs x) = (row old c call ≡ Wants x) × (new ≡ old)
+
+-- a call is answered, and not for want of memory
+abbrev pub IsAnswered : Came → Type 0
+IsAnswered (came.Answered a) = is_no_memory a.reply ≡ false
+IsAnswered (came.Needs x) = ⊥
 
 -- the reference that an inner entry dooms
 abbrev pub doomed_by : Inner → Option Ref
@@ -74,3 +79,8 @@ pub record Ends (w v : World) (old new : Recorded) (c : ℕ) (call : Call) (r : 
 abbrev pub Advances : World → World → Recorded → Recorded → ℕ → Call → Advanced → Type 0
 Advances w v old new c call advanced.Went = (x : Inner) × Goes w v old new c call x
 Advances w v old new c call (advanced.Ended a) = Ends w v old new c call a.reply
+
+-- the call is answered, and not for want of memory
+abbrev pub IsEnded : Advanced → Type 0
+IsEnded advanced.Went = ⊥
+IsEnded (advanced.Ended a) = is_no_memory a.reply ≡ false

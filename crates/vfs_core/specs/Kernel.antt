@@ -1,7 +1,8 @@
 -- What contracts see of a kernel, and what a kernel keeps.
-use Rattle.std.specs.Prelude.{ℕ, ◌+◌, ◌*◌, ◌≡◌, ◌==◌, ◌≤◌, true, List, [], IsSome}
+use Rattle.std.specs.Prelude.{ℕ, ◌+◌, ◌*◌, ◌≡◌, ◌==◌, ◌≤◌, true, List, [], IsSome, IfSome}
 use Rattle.std.specs.List.{list_any}
-use Rattle.std.specs.FinMap.{get, len}
+use Rattle.std.specs.FinMap.{FinMap, get, len}
+use Rattle.std.specs.Ordering.{nat_cmp}
 use Rattle.vfs_tree.specs.Limits.{IsLawful, IsCaller}
 use Rattle.vfs_tree.specs.Nodes.{IsNumbered}
 use Rattle.vfs_tree.specs.Start.{start_world}
@@ -12,6 +13,7 @@ use Rattle.call_model.specs.Recorded.{Recorded}
 use Rattle.call_model.specs.declared.entry.Entry.{Entry}
 use Rattle.call_laws.specs.Live.{live, work_left}
 use Rattle.call_laws.specs.Leaving.{IsLeaving}
+use Rattle.plain_calls.specs.Answering.{HasRoomFor}
 
 -- the limits, the entries of the history, and the pending calls by caller
 pub record Kernel : Type 0 where
@@ -40,3 +42,7 @@ pub record IsKept (limits : Limits) (world : World) (history : Recorded) (pendin
   pub leaving : (c : ℕ) → IsLeaving world c (get pending c)
   pub doomers : (c : ℕ) → list_any (λ d. d == c) (doomers_in [] history.entries) ≡ true → IsSome (get world.leaving c)
   pub numbered : IsNumbered world
+
+-- each pending call that reads bytes has room for them
+abbrev pub HaveRoom : Pending → FinMap nat_cmp ℕ → Type 0
+HaveRoom pending rooms = (c : ℕ) → IfSome (get pending c) (λ call. HasRoomFor call (get rooms c))

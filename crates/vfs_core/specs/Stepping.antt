@@ -1,9 +1,10 @@
 -- What a step of a call does.
-use Rattle.std.specs.Prelude.{ℕ, ◌≡◌, ◌<◌, ◌++◌, ◌∷◌, List, [], map, Some}
+use Rattle.std.specs.Prelude.{ℕ, ◌≡◌, ◌<◌, ◌++◌, ◌∷◌, false, List, [], map, Some}
 use Rattle.std.specs.FinMap.{get, remove}
 use Rattle.vfs_core.specs.Kernel.{Kernel, work}
 use Rattle.vfs_core.specs.declared.kern.Stepped.{Stepped}
 use Rattle.vfs_core.specs.declared.kern.Stepped.TheVariants as stepped
+use Rattle.call_model.specs.Legal.{is_no_memory}
 use Rattle.call_model.specs.declared.call.Call.{Call}
 use Rattle.call_model.specs.declared.entry.Entry.{Entry}
 use Rattle.call_model.specs.declared.entry.Entry.TheVariants as entry
@@ -23,3 +24,8 @@ Steps old new c stepped.Went =
 Steps old new c (stepped.Ended reply) =
     (call : Call) × (ats : List Ref) × (get old.pending c ≡ Some call)
     × (new ≡ record old { history = old.history ++ (dooms c ats ++ entry.Call c call reply ∷ []); pending = remove old.pending c })
+
+-- the call ended, and not for want of memory
+abbrev pub EndsWithMemory : Stepped → Type 0
+EndsWithMemory stepped.Went = ⊥
+EndsWithMemory (stepped.Ended reply) = is_no_memory reply ≡ false

@@ -7,14 +7,16 @@ ghost use Rattle.call_model.specs.Rows.{row};
 ghost use Rattle.call_laws.specs.Fitting.{IsRevoke, TakesNumber};
 ghost use Rattle.call_laws.specs.Leaving.{IsLeaving};
 ghost use Rattle.call_laws.specs.Live.{live};
+ghost use Rattle.plain_calls.specs.Answering.{HasRoomFor, NeedsNoMemory};
 ghost use Rattle.plain_effects.specs.Room.{HasRoom};
-ghost use Rattle.vfs_core.specs.Coming.{Advances, doomed_by};
+ghost use Rattle.vfs_core.specs.Coming.{Advances, IsEnded, doomed_by};
 
 use crate::answering::{Came, answer_or_need, failed};
 use crate::ledger::Ledger;
 use crate::revoking::{doom_open, enter_doom, node_under};
 use call_model::{Call, Entry, Inner, Ref};
 use plain_checks::Answer;
+use plain_data::Room;
 use plain_effects::make_effect;
 use std::alloc::{AllocError, Global};
 use vfs_tree::{Errno, World};
@@ -110,14 +112,17 @@ pub fn advance(
     history: &mut Ledger,
     caller: u32,
     call: &Call,
+    room: Option<Room>,
 ) -> Advanced
     requires numbered { IsNumbered world.old }
     requires leaving { IsLeaving world.old caller (Some call.now) }
     requires room { live world.old + 1 ≤ history.old.spare }
+    requires holds { HasRoomFor call.now room }
     ensures advanced { Advances world.old world.new history.old history.new caller call.now result }
+    ensures sure { NeedsNoMemory call.now → IsEnded result }
     ensures kept { IsNumbered world.new }
 {
-    let what = match answer_or_need(alloc, world, caller, call) {
+    let what = match answer_or_need(alloc, world, caller, call, room) {
         Came::Answered { answer } => return Advanced::Ended { answer },
         Came::Needs { what } => what,
     };

@@ -2,11 +2,13 @@
 ghost use Rattle.std.specs.Prelude.{◌≡◌, Some};
 ghost use Rattle.vfs_tree.specs.Nodes.{IsNumbered};
 ghost use Rattle.call_laws.specs.Leaving.{IsLeaving};
-ghost use Rattle.vfs_core.specs.Coming.{ComesTo};
+ghost use Rattle.plain_calls.specs.Answering.{HasRoomFor, NeedsNoMemory};
+ghost use Rattle.vfs_core.specs.Coming.{ComesTo, IsAnswered};
 
 use call_model::{Call, Inner, Reply};
 use plain_calls::answer_call;
 use plain_checks::{Answer, Stop};
+use plain_data::Room;
 use std::alloc::Global;
 use vfs_tree::{Errno, World};
 
@@ -37,13 +39,21 @@ pub fn failed(errno: Errno) -> Answer
 
 /// Answers a call in the world, by ENOMEM where memory is wanting, or tells what it needs first. Where it isn't answered
 /// the world stays.
-pub fn answer_or_need(alloc: Global, world: &mut World, caller: u32, call: &Call) -> Came
+pub fn answer_or_need(
+    alloc: Global,
+    world: &mut World,
+    caller: u32,
+    call: &Call,
+    room: Option<Room>,
+) -> Came
     requires numbered { IsNumbered world.old }
     requires leaving { IsLeaving world.old caller (Some call.now) }
+    requires room { HasRoomFor call.now room }
     ensures came { ComesTo world.old world.new caller call.now result }
+    ensures sure { NeedsNoMemory call.now → IsAnswered result }
     ensures kept { IsNumbered world.new }
 {
-    match answer_call(alloc, world, caller, call) {
+    match answer_call(alloc, world, caller, call, room) {
         Ok(answer) => Came::Answered { answer },
         Err(Stop::Refused { errno }) => Came::Answered {
             answer: failed(errno),

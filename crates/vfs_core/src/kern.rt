@@ -1,15 +1,18 @@
-ghost use Rattle.std.specs.Prelude.{◌≡◌, ◌∷◌, ◌++◌, [], true, IsSome, is_some, IfOk, IfErr, OnOk, OnErr, None};
+ghost use Rattle.std.specs.Prelude.{◌≡◌, ◌∷◌, ◌++◌, [], true, IsSome, IfSome, is_some, IfOk, IfErr, OnOk, OnErr, None};
 ghost use Rattle.std.specs.FinMap as map;
 ghost use Rattle.vfs_tree.specs.Limits.{IsLawful, IsCaller};
 ghost use Rattle.vfs_tree.specs.Start.{start_world};
 ghost use Rattle.call_model.specs.Legal.{IsLegal, replay};
-ghost use Rattle.vfs_core.specs.Stepping.{Steps};
+ghost use Rattle.plain_calls.specs.Answering.{NeedsNoMemory};
+ghost use Rattle.vfs_core.specs.Stepping.{EndsWithMemory, Steps};
 
 use crate::advancing::{Advanced, advance};
 use crate::ending::end;
 use crate::ledger::Ledger;
+use crate::rooms::{make_room, take_room};
 use call_model::{Call, History, Reply};
 use finite_maps::{Duplicate, NumberMap};
+use plain_data::Room;
 use std::alloc::{AllocError, Global};
 use std::marker::Model;
 use vfs_tree::{Limits, World};
@@ -36,10 +39,12 @@ pub struct Kern {
     world: World,
     history: Ledger,
     pending: NumberMap<Call>,
+    rooms: NumberMap<Room>,
+    alloc: Global,
 }
 
 impl Model for Kern {
-    ghost use Rattle.vfs_core.specs.Kernel.{Kernel, IsKept};
+    ghost use Rattle.vfs_core.specs.Kernel.{Kernel, HaveRoom, IsKept};
 
     ghost Value = { Kernel };
 
@@ -52,7 +57,7 @@ impl Model for Kern {
 
     ghost view = { λ k. record { limits = k.limits; history = k.history.entries; pending = k.pending } };
 
-    ghost invariant = { λ k. IsKept k.limits k.world k.history k.pending };
+    ghost invariant = { λ k. IsKept k.limits k.world k.history k.pending × HaveRoom k.pending k.rooms };
 }
 
 impl Kern {
@@ -68,10 +73,13 @@ impl Kern {
             world,
             history,
             pending: NumberMap::new(alloc),
+            rooms: NumberMap::new(alloc),
+            alloc,
         })
     }
 
-    /// Makes a call of a caller that has none live. For want of memory the call comes back, and nothing changes.
+    /// Makes a call of a caller that has none live. For want of memory the call comes back, and nothing changes. A call that
+    /// is to read bytes takes the room for them here.
     pub fn begin(&mut self, caller: u32, call: Call) -> Result<(), Call>
         requires caller { IsCaller self.old.limits caller }
         requires idle { map.get self.old.pending caller ≡ None }
@@ -84,24 +92,34 @@ impl Kern {
             Ok(()) => {}
             Err(_) => return Err(call),
         }
+        match make_room(self.alloc, &mut self.rooms, caller, &call) {
+            Ok(()) => {}
+            Err(_) => return Err(call),
+        }
         match self.pending.try_insert(caller, call) {
             Ok(_) => Ok(()),
-            Err(call) => Err(call),
+            Err(call) => {
+                take_room(&mut self.rooms, caller);
+                Err(call)
+            }
         }
     }
 
     /// Takes the live call of a caller one step further: to the inner entry that it needs, or to its end. A forced unmount
     /// takes a step for each of its entries; a revoke makes its dooms and ends in one step. Where memory is wanting the
-    /// answer is ENOMEM and the world stays; a caller that has detached a mount, or doomed a reference, never meets that.
+    /// answer is ENOMEM and the world stays; a caller that has detached a mount, or doomed a reference, never meets that, nor
+    /// does a close, a read, a pread, an lseek or an fstat.
     pub fn step(&mut self, alloc: Global, caller: u32) -> Stepped
         requires { IsSome (map.get self.old.pending caller) }
         ensures stepped { Steps self.old self.new caller result }
+        ensures sure { IfSome (map.get self.old.pending caller) NeedsNoMemory → EndsWithMemory result }
         ensures legal { IsLegal self.new.pending (start_world self.new.limits) self.new.history }
     {
         let Some(call) = self.pending.get(caller) else {
             unreachable!()
         };
-        match advance(alloc, &mut self.world, &mut self.history, caller, call) {
+        let room = take_room(&mut self.rooms, caller);
+        match advance(alloc, &mut self.world, &mut self.history, caller, call, room) {
             Advanced::Went => Stepped::Went,
             Advanced::Ended { answer } => Stepped::Ended {
                 reply: end(&mut self.pending, &mut self.history, caller, answer),

@@ -13,6 +13,7 @@ mod kern;
 mod ledger;
 mod queue;
 mod revoking;
+mod rooms;
 #[cfg(test)]
 mod tests;
 

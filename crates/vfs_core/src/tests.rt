@@ -3,7 +3,7 @@ ghost use Rattle.std.specs.List.{AllByRecursion};
 ghost use Rattle.vfs_core.specs.Turning.{FitsJob};
 
 use crate::{Job, Kern, Stepped, Turned};
-use call_model::{Call, Entry, Line, Reply};
+use call_model::{Access, Call, Entry, Flags, Line, Reply, Whence};
 use std::alloc::{AllocError, Global};
 use std::test::Fail;
 use vfs_tree::{Bytes, Errno, Kind, Limits};
@@ -169,5 +169,92 @@ fn calls_run_in_order(rt: HostRuntime) -> Result<(), Fail> {
     let mut job = Job::new(alloc, Kern::new(alloc, LIMITS)?, lines(alloc)?)?;
     job.run_order(alloc)?;
     assert!(rt; has_order(job.kern(), &[1, 1, 2, 2, 3]));
+    Ok(())
+}
+
+const BOTH: Flags = Flags {
+    access: Access::Both,
+    make: true,
+    fresh: false,
+    cut: false,
+    append: false,
+    dir: false,
+};
+
+// Reads of a file of three bytes, at the greatest length and over it among them.
+fn reads(alloc: Global) -> Result<Vec<Line>, AllocError>
+    ensures { IfOk result (λ lines. AllByRecursion (FitsJob LIMITS) lines.items) }
+{
+    let path = Bytes::copy_of(alloc, b"/f")?;
+    let written = Bytes::copy_of(alloc, b"abc")?;
+    let mut lines = Vec::new(alloc);
+    lines.push(Line {
+        caller: 1,
+        call: Call::Open { p: path, f: BOTH },
+    })?;
+    lines.push(Line {
+        caller: 1,
+        call: Call::Write { d: 0, w: written },
+    })?;
+    lines.push(Line {
+        caller: 1,
+        call: Call::Pread {
+            d: 0,
+            n: 65_536,
+            o: 1,
+        },
+    })?;
+    lines.push(Line {
+        caller: 1,
+        call: Call::Read {
+            d: 0,
+            n: 1_000_000_000,
+        },
+    })?;
+    lines.push(Line {
+        caller: 1,
+        call: Call::Lseek {
+            d: 0,
+            h: Whence::Set,
+            i: 0,
+        },
+    })?;
+    lines.push(Line {
+        caller: 1,
+        call: Call::Read { d: 0, n: 2 },
+    })?;
+    Ok(lines)
+}
+
+// Whether a call of the history was answered by these bytes.
+fn gave(kern: &Kern, at: usize, wanted: &[u8]) -> bool {
+    match kern.history().get(at) {
+        Some(Entry::Call {
+            reply: Reply::Bytes { bytes },
+            ..
+        }) => bytes.as_slice() == wanted,
+        _ => false,
+    }
+}
+
+// Whether a call of the history was refused so.
+fn refused(kern: &Kern, at: usize, wanted: Errno) -> bool {
+    match kern.history().get(at) {
+        Some(Entry::Call {
+            reply: Reply::Fail { errno },
+            ..
+        }) => *errno == wanted,
+        _ => false,
+    }
+}
+
+#[test]
+fn reads_give_what_was_written(rt: HostRuntime) -> Result<(), Fail> {
+    let alloc = rt.alloc();
+    let mut job = Job::new(alloc, Kern::new(alloc, LIMITS)?, reads(alloc)?)?;
+    job.run_order(alloc)?;
+    assert!(rt; gave(job.kern(), 2, b"bc"));
+    assert!(rt; refused(job.kern(), 3, Errno::EINVAL));
+    assert!(rt; gave(job.kern(), 5, b"ab"));
     Ok(())
 }

@@ -32,3 +32,12 @@ returns-in-Err-clause-advanced c =
     let came = c.in-Needs.ensures.came in
     ends_lacking c.args.world.now c.enter.new.world c.args.history.now c.enter.new.history c.args.caller c.args.call.now c.in-Needs.what c.failed.result.reply
     c.requires.leaving came.0 (sym c.in-None.ensures) c.failed.ensures (c.in-Err.ensures.err_world ∙ came.1) c.in-Err.ensures.err_history c.enter.ensures.never_less
+
+pub returns-in-Some-clause-sure : goal.returns-in-Some-clause-sure
+returns-in-Some-clause-sure c = λ none. absurd (c.in-Needs.ensures.sure none)
+
+pub returns-in-Ok-clause-sure : goal.returns-in-Ok-clause-sure
+returns-in-Ok-clause-sure c = λ none. absurd (c.in-Needs.ensures.sure none)
+
+pub returns-in-Err-clause-sure : goal.returns-in-Err-clause-sure
+returns-in-Err-clause-sure c = λ none. absurd (c.in-Needs.ensures.sure none)
