@@ -13,8 +13,13 @@ mod kern;
 mod ledger;
 mod queue;
 mod revoking;
+mod seat;
 #[cfg(test)]
 mod tests;
+mod turns;
+mod vfs;
 
 pub use job::{Job, Turned};
 pub use kern::{Kern, Stepped};
+pub use seat::Seat;
+pub use vfs::Vfs;
