@@ -1,5 +1,5 @@
 -- What turns and seats keep.
-use Rattle.std.proofs.Common.{◌≡◌, ◌≢◌, ℕ, ◌+◌, ◌-◌, ◌≤◌, arith, length, Bool, true, false, ◌==◌, ◌++◌, List, [], ◌∷◌, refl, ap, sym, ◌∙◌, subst, cond, nat_eq, append_assoc, inl, inr, drop, length-append}
+use Rattle.std.proofs.Common.{◌≡◌, ◌≢◌, ℕ, zero, suc, ◌+◌, ◌-◌, ◌≤◌, arith, length, Bool, true, false, ◌==◌, ◌++◌, List, [], ◌∷◌, refl, ap, sym, ◌∙◌, subst, cond, nat_eq, append_assoc, inl, inr, drop, length-append, eq-eqb, ne_eqb}
 use Rattle.std.specs.Prelude.{Result, Ok, Err, OnOk, OnErr, Option, Some, None, IsSome, is_some, option_map, unwrap_or}
 use Rattle.std.specs.Option.{option_or}
 use Rattle.std.specs.Ordering.{nat_cmp}
@@ -24,7 +24,7 @@ use Rattle.vfs_core.specs.Kernel.{Kernel}
 use Rattle.vfs_core.specs.Stepping.{Steps, dooms}
 use Rattle.vfs_core.specs.declared.kern.Stepped.{Stepped}
 use Rattle.vfs_core.specs.declared.kern.Stepped.TheVariants as stepped
-use Rattle.vfs_core.specs.Seats.{Part, part_of, Passing, Sharing, Seating, seated, made, has_number, own_calls, mine, known_calls, IsSeatOf, IsSeated, IsResting, IsCalling, TookTurn, EndsTurn, StepsTurn, Called, CameBack}
+use Rattle.vfs_core.specs.Seats.{Part, part_of, Passing, Sharing, shared, Seating, seated, made, has_number, own_calls, mine, known_calls, IsSeatOf, IsSeated, IsResting, IsCalling, TookTurn, EndsTurn, StepsTurn, Called, CameBack}
 use Rattle.vfs_core.proofs.TurnLaws.{get-put, get-taken, calls_append, inner_keeps, dooms_keep}
 
 -- ---- options
@@ -40,6 +40,14 @@ some_there (Some x) h = (x, refl)
 still_some : {X Y : Type 0} (f : X → Y) (o : Option X) → is_some (option_map f o) ≡ is_some o
 still_some f None = refl
 still_some f (Some x) = refl
+
+first_there : {X : Type 0} (a b : Option X) → is_some a ≡ true → option_or a b ≡ a
+first_there None b h = cc
+first_there (Some x) b h = refl
+
+second_there : {X : Type 0} (a b : Option X) → is_some b ≡ true → is_some (option_or a b) ≡ true
+second_there None b h = h
+second_there (Some x) b h = refl
 
 -- ---- extended histories
 
@@ -241,3 +249,330 @@ took_after limits c old now new w t = record {
   known = t.known;
   others = λ n apart. t.others n apart ∙ w.same n;
 }
+
+-- a caller that calls does so still, and its call may end
+pub calls_still : (c : ℕ) (old now : Passing) → Waits c old now → (calls : List Call) × (call : Call) × IsCalling c old calls call → (calls : List Call) × (call : Call) × IsCalling c now calls call
+calls_still c old now w live = (live.0, live.1, w.same c ∙ live.2)
+
+pub ends_after : (c : ℕ) (old now new : Passing) (reply : Reply) → Waits c old now → StepsTurn c now new (stepped.Ended reply)
+    → (calls : List Call) (call : Call) → IsCalling c old calls call → EndsTurn c calls call reply new
+ends_after c old now new reply w ended calls call was = ended calls call (w.same c ∙ was)
+
+-- ---- seats and their passes
+
+abbrev pub calls_in : Option Part → Option (List Call)
+calls_in o = option_map (λ (q : Part). q.0) o
+
+-- a seat has the numbers that its pass has
+pub number_same : (n c : ℕ) (born : List Call) (p : Passing) → has_number n (seated c born p) ≡ lock.has_number n p
+number_same n c born p = still_some (λ (q : Part). q.0) (known_part n p)
+
+-- its calls are those that the pass knows
+pub own_known : (c : ℕ) (born calls : List Call) (o : Option Call) (p : Passing) → known_part c p ≡ Some (calls, o) → own_calls (seated c born p) ≡ calls
+own_known c born calls o p is = ap (λ (x : Option Part). unwrap_or (option_map (λ (q : Part). q.0) x) []) is
+
+-- its own number rests
+pub resting : (c : ℕ) (born : List Call) (p : Passing) → IsSeated c born p → (calls : List Call) × IsResting c p calls
+resting c born p s =
+    let q = some_there (known_part c p) s.own in
+    (q.0.0, q.1 ∙ ap (λ o. Some (q.0.0, o)) (s.idle c q.0 q.1))
+
+pub born_within : (c : ℕ) (born calls : List Call) (o : Option Call) (p : Passing) → IsSeated c born p → known_part c p ≡ Some (calls, o) → length born ≤ length calls
+born_within c born calls o p s is = subst (λ (t : List Call). length born ≤ length t) (own_known c born calls o p is) s.since
+
+-- a seat whose pass knows the same as before
+pub seated_same : (c : ℕ) (born : List Call) (p r : Passing) → IsSeated c born p → r.held ≡ None → ((n : ℕ) → known_part n r ≡ known_part n p) → IsSeated c born r
+seated_same c born p r s rests same = record {
+  rests = rests;
+  own = ap is_some (same c) ∙ s.own;
+  idle = λ n q is. s.idle n q (sym (same n) ∙ is);
+  since = subst (λ (o : Option Part). length born ≤ length (unwrap_or (option_map (λ (q : Part). q.0) o) [])) (sym (same c)) s.since;
+}
+
+-- a seat comes from the kernel that its pass comes from
+pub of_lock : (l : Lock Limits) (v : Sharing) (c : ℕ) (born : List Call) (p : Passing) (s : Seating) → shared l ≡ v → seated c born p ≡ s → IsSeatOf v s → IsSeatOf (shared l) (seated c born p)
+of_lock l v c born p s lv ps h = subst (λ (x : Sharing). IsSeatOf x (seated c born p)) (sym lv) (subst (λ (x : Seating). IsSeatOf v x) (sym ps) h)
+
+pub comes : (l : Lock Limits) (c : ℕ) (born : List Call) (p : Passing) → IsSeatOf (shared l) (seated c born p) → ComesFrom l p
+comes l c born p h = (h.home, h.limits)
+
+pub its_caller : (l : Lock Limits) (c : ℕ) (born : List Call) (p : Passing) → IsSeatOf (shared l) (seated c born p) → IsSeated c born p → IsCaller l.fixed c
+its_caller l c born p h s = h.callers c (number_same c c born p ∙ s.own)
+
+-- and so does one that has no other numbers
+pub seat_of : (l : Lock Limits) (c d : ℕ) (born other : List Call) (p r : Passing) → IsSeatOf (shared l) (seated c born p) → ComesFrom l r
+    → ((n : ℕ) → lock.has_number n r ≡ true → lock.has_number n p ≡ true) → IsSeatOf (shared l) (seated d other r)
+seat_of l c d born other p r h own fewer = record {
+  home = own.0;
+  limits = own.1;
+  callers = λ n there. h.callers n (number_same n c born p ∙ fewer n (sym (number_same n d other r) ∙ there));
+}
+
+-- what is said of the lock's kernel and pass is said of the shared one and the seat
+pub of_seat : (l : Lock Limits) (v : Sharing) (s : Seating) → shared l ≡ v → IsSeatOf (shared l) s → IsSeatOf v s
+of_seat l v s lv h = subst (λ (x : Sharing). IsSeatOf x s) lv h
+
+-- ---- a call
+
+-- what a call that ended leaves known
+known_end : (limits : Limits) (c : ℕ) (p r t : Passing) (n : ℕ) → n ≢ c → TookTurn limits c p r → TookTurn limits c r t → known_part n t ≡ known_part n p
+known_end limits c p r t n apart a b = b.others n apart ∙ a.others n apart
+
+-- a call that was begun in one turn and ended in others
+pub record Runs (limits : Limits) (c : ℕ) (p r t : Passing) (call : Call) (reply : Reply) : Type 0 where
+  pub first : TookTurn limits c p r
+  pub begun : (calls : List Call) → IsResting c p calls → IsCalling c r calls call
+  pub rest : TookTurn limits c r t
+  pub ended : (calls : List Call) (k : Call) → IsCalling c r calls k → EndsTurn c calls k reply t
+
+more_calls : (n : ℕ) (xs ys : List Call) → n ≤ length xs → drop n (xs ++ ys) ≡ drop n xs ++ ys
+more_calls zero xs ys h = refl
+more_calls (suc n) [] ys h = absurd (omega arith)
+more_calls (suc n) (x ∷ xs) ys h = more_calls n xs ys (omega arith)
+
+whole_calls : (n : ℕ) (xs : List Call) → n ≤ length xs → length xs ≡ n + length (drop n xs)
+whole_calls zero xs h = omega arith
+whole_calls (suc n) [] h = absurd (omega arith)
+whole_calls (suc n) (x ∷ xs) h = let rest = whole_calls n xs (omega arith) in omega arith
+
+pub called : (limits : Limits) (c : ℕ) (born : List Call) (p r t : Passing) (call : Call) (reply : Reply) → IsSeated c born p → Runs limits c p r t call reply
+    → Called limits (seated c born p) (seated c born t) call reply
+called limits c born p r t call reply s run =
+    let was = resting c born p s in
+    let calls : List Call = was.0 in
+    let end = run.ended calls call (run.begun calls was.1) in
+    let known : ◌≡◌ {A = Part} (calls ++ call ∷ [], None) (calls_of c t.seen, get run.rest.pending c) = run.rest.known c (calls ++ call ∷ [], None) end.rests in
+    let low : length born ≤ length calls = born_within c born calls None p s was.1 in
+    let now : own_calls (seated c born t) ≡ calls ++ call ∷ [] = own_known c born (calls ++ call ∷ []) None t end.rests in
+    let old : own_calls (seated c born p) ≡ calls = own_known c born calls None p was.1 in
+    let more : length (calls ++ call ∷ []) ≡ length calls + 1 = length-append calls (call ∷ []) in
+    record {
+      pending = run.rest.pending;
+      legal = run.rest.legal;
+      idle = sym (ap (λ (q : Part). q.1) known);
+      later = extends_more p.seen r.seen t.seen run.first.later run.rest.later;
+      more = end.more;
+      last = end.last;
+      calls = ap calls_in end.rests ∙ ap (λ (q : Part). Some q.0) known;
+      one = ap calls_in end.rests ∙ ap (λ (k : List Call). Some (k ++ call ∷ [])) (sym old);
+      mine_one = ap (drop (length born)) now ∙ more_calls (length born) calls (call ∷ []) low ∙ ap (λ (k : List Call). drop (length born) k ++ call ∷ []) (sym old);
+      since = ap length (sym (ap (λ (q : Part). q.0) known)) ∙ whole_calls (length born) (calls ++ call ∷ []) (omega arith) ∙ ap (λ (k : List Call). length born + length (drop (length born) k)) (sym now);
+      others = λ n apart. ap calls_in (known_end limits c p r t n apart run.first run.rest);
+    }
+
+pub called_seated : (limits : Limits) (c : ℕ) (born : List Call) (p r t : Passing) (call : Call) (reply : Reply) → IsSeated c born p → t.held ≡ None → Runs limits c p r t call reply → IsSeated c born t
+called_seated limits c born p r t call reply s rests run =
+    let was = resting c born p s in
+    let calls : List Call = was.0 in
+    let end = run.ended calls call (run.begun calls was.1) in
+    let low : length born ≤ length calls = born_within c born calls None p s was.1 in
+    let more : length (calls ++ call ∷ []) ≡ length calls + 1 = length-append calls (call ∷ []) in
+    record {
+      rests = rests;
+      own = ap is_some end.rests;
+      idle = λ n q is. by_number n c (q.1 ≡ None)
+          (λ e. ap (λ (x : Part). x.1) (same_Some q (calls ++ call ∷ [], None) (sym is ∙ ap (λ k. known_part k t) e ∙ end.rests)))
+          (λ apart. s.idle n q (sym (known_end limits c p r t n apart run.first run.rest) ∙ is));
+      since = subst (λ (k : List Call). length born ≤ length k) (sym (own_known c born (calls ++ call ∷ []) None t end.rests)) (omega arith);
+    }
+
+-- all is known as before
+pub all_same : (limits : Limits) (c : ℕ) (p r : Passing) → TookTurn limits c p r → known_part c r ≡ known_part c p → (n : ℕ) → known_part n r ≡ known_part n p
+all_same limits c p r took same n = by_number n c (known_part n r ≡ known_part n p) (λ e. ap (λ k. known_part k r) e ∙ same ∙ ap (λ k. known_part k p) (sym e)) (took.others n)
+
+-- a seat whose call came back knows the same as before
+pub same_numbers : (limits : Limits) (c : ℕ) (p r : Passing) → TookTurn limits c p r → known_part c r ≡ known_part c p → (n : ℕ) → lock.has_number n r ≡ true → lock.has_number n p ≡ true
+same_numbers limits c p r took same n there = ap is_some (sym (all_same limits c p r took same n)) ∙ there
+
+pub called_numbers : (limits : Limits) (c : ℕ) (born : List Call) (p r t : Passing) (call : Call) (reply : Reply) → IsSeated c born p → Runs limits c p r t call reply
+    → (n : ℕ) → lock.has_number n t ≡ true → lock.has_number n p ≡ true
+called_numbers limits c born p r t call reply s run n there =
+    by_number n c (lock.has_number n p ≡ true) (λ e. ap (λ k. lock.has_number k p) e ∙ s.own) (λ apart. ap is_some (sym (known_end limits c p r t n apart run.first run.rest)) ∙ there)
+
+pub came_back : (limits : Limits) (c : ℕ) (born : List Call) (p r : Passing) → IsSeated c born p → TookTurn limits c p r → known_part c r ≡ known_part c p
+    → CameBack limits (seated c born p) (seated c born r)
+came_back limits c born p r s took same =
+    let was = resting c born p s in
+    let known : ◌≡◌ {A = Part} (was.0, None) (calls_of c r.seen, get took.pending c) = took.known c (was.0, None) (same ∙ was.1) in
+    record {
+      pending = took.pending;
+      legal = took.legal;
+      idle = sym (ap (λ (q : Part). q.1) known);
+      later = took.later;
+      calls = ap calls_in (same ∙ was.1) ∙ ap (λ (q : Part). Some q.0) known;
+      made_same = λ n. ap calls_in (all_same limits c p r took same n);
+      mine_same = ap (λ o. drop (length born) (unwrap_or (calls_in o) [])) same;
+    }
+
+-- ---- a seat has the numbers that it had
+
+pub numbers_end : (limits : Limits) (c : ℕ) (born : List Call) (p r t : Passing) (call : Call) (reply : Reply) → IsSeated c born p → Runs limits c p r t call reply
+    → (n : ℕ) → has_number n (seated c born t) ≡ has_number n (seated c born p)
+numbers_end limits c born p r t call reply s run n =
+    let was = resting c born p s in
+    let end = run.ended was.0 call (run.begun was.0 was.1) in
+    by_number n c (has_number n (seated c born t) ≡ has_number n (seated c born p))
+    (λ e. ap (λ k. has_number k (seated c born t)) e ∙ ap (λ o. is_some (calls_in o)) end.rests ∙ ap (λ o. is_some (calls_in o)) (sym was.1) ∙ ap (λ k. has_number k (seated c born p)) (sym e))
+    (λ apart. ap (λ o. is_some (calls_in o)) (known_end limits c p r t n apart run.first run.rest))
+
+pub numbers_back : (limits : Limits) (c : ℕ) (born : List Call) (p r : Passing) → TookTurn limits c p r → known_part c r ≡ known_part c p → (n : ℕ) → has_number n (seated c born r) ≡ has_number n (seated c born p)
+numbers_back limits c born p r took same n = ap (λ o. is_some (calls_in o)) (all_same limits c p r took same n)
+
+-- a seat has its own number
+pub has_own : (c : ℕ) (born : List Call) (p : Passing) (s : Seating) → seated c born p ≡ s → IsSeated c born p → has_number s.caller s ≡ true
+has_own c born p s is held = subst (λ (x : Seating). has_number x.caller x ≡ true) is (number_same c c born p ∙ held.own)
+
+-- where one seat has one of two callers and another the other, together they have all
+pub two_numbers : (limits : Limits) (a b r : Seating) → limits.callers ≡ 2 → has_number 1 a ≡ true → has_number 2 b ≡ true → ((n : ℕ) → made n r ≡ option_or (made n a) (made n b))
+    → (n : ℕ) → IsCaller limits n → has_number n r ≡ true
+two_numbers limits a b r two first second parts n caller =
+    let high : n ≤ 2 = subst (λ k. n ≤ k) two caller.last in
+    let low = caller.first in
+    by_number n 1 (has_number n r ≡ true)
+    (λ e. ap is_some (parts n) ∙ ap (λ k. is_some (option_or (made k a) (made k b))) e ∙ ap is_some (first_there (made 1 a) (made 1 b) first) ∙ first)
+    (λ apart.
+        let is : n ≡ 2 = omega (arith, apart) in
+        ap is_some (parts n) ∙ ap (λ k. is_some (option_or (made k a) (made k b))) is ∙ second_there (made 2 a) (made 2 b) second)
+
+-- ---- a number is cut off
+
+cut_off : {X : Type 0} (n k : ℕ) (x y : X) → n ≢ k → cond (nat_eq n k) x y ≡ y
+cut_off n k x y apart = ap (λ b. cond b x y) (ne_eqb n k apart)
+
+cut_at : {X : Type 0} (n : ℕ) (x y : X) → cond (nat_eq n n) x y ≡ x
+cut_at n x y = ap (λ b. cond b x y) (eq-eqb n n refl)
+
+-- what is there of a number that was cut off, or kept
+there_of : {X : Type 0} (b : Bool) (o : Option X) (q : X) → cond b None o ≡ Some q → o ≡ Some q
+there_of true o q e = cc
+there_of false o q e = e
+
+there_in : {X : Type 0} (b : Bool) (o : Option X) (q : X) → cond b o None ≡ Some q → o ≡ Some q
+there_in true o q e = e
+there_in false o q e = cc
+
+pub kept_seated : (c k : ℕ) (born : List Call) (p r : Passing) → IsSeated c born p → k ≢ c → r.held ≡ None → ((n : ℕ) → known_part n r ≡ cond (nat_eq n k) None (known_part n p)) → IsSeated c born r
+kept_seated c k born p r s another rests kept =
+    let same : known_part c r ≡ known_part c p = kept c ∙ cut_off c k None (known_part c p) (λ e. another (sym e)) in
+    record {
+      rests = rests;
+      own = ap is_some same ∙ s.own;
+      idle = λ n q is. s.idle n q (there_of (nat_eq n k) (known_part n p) q (sym (kept n) ∙ is));
+      since = subst (λ (o : Option Part). length born ≤ length (unwrap_or (option_map (λ (q : Part). q.0) o) [])) (sym same) s.since;
+    }
+
+pub kept_mine : (c k : ℕ) (born : List Call) (p r : Passing) → k ≢ c → ((n : ℕ) → known_part n r ≡ cond (nat_eq n k) None (known_part n p)) → mine (seated c born r) ≡ mine (seated c born p)
+kept_mine c k born p r another kept = ap (λ o. drop (length born) (unwrap_or (calls_in o) [])) (kept c ∙ cut_off c k None (known_part c p) (λ e. another (sym e)))
+
+at_least : (n : ℕ) → n ≤ n
+at_least n = omega arith
+
+pub given_seated : (c k : ℕ) (born : List Call) (p r : Passing) → IsSeated c born p → lock.has_number k p ≡ true → r.held ≡ None
+    → ((n : ℕ) → known_part n r ≡ cond (nat_eq n k) (known_part n p) None) → IsSeated k (known_calls k r) r
+given_seated c k born p r s has rests given = record {
+  rests = rests;
+  own = ap is_some (given k ∙ cut_at k (known_part k p) None) ∙ has;
+  idle = λ n q is. s.idle n q (there_in (nat_eq n k) (known_part n p) q (sym (given n) ∙ is));
+  since = at_least (length (known_calls k r));
+}
+
+none_left : (xs : List Call) → drop (length xs) xs ≡ []
+none_left [] = refl
+none_left (x ∷ xs) = none_left xs
+
+-- a seat has made nothing when it is made
+pub born_mine : (c : ℕ) (born : List Call) (p : Passing) → born ≡ known_calls c p → mine (seated c born p) ≡ []
+born_mine c born p e = ap (λ (k : List Call). drop (length k) (known_calls c p)) e ∙ none_left (known_calls c p)
+
+pub fewer_kept : (k : ℕ) (p r : Passing) → ((n : ℕ) → known_part n r ≡ cond (nat_eq n k) None (known_part n p)) → (n : ℕ) → lock.has_number n r ≡ true → lock.has_number n p ≡ true
+fewer_kept k p r kept n there = let q = some_there (known_part n r) there in ap is_some (there_of (nat_eq n k) (known_part n p) q.0 (sym (kept n) ∙ q.1))
+
+pub fewer_given : (k : ℕ) (p r : Passing) → ((n : ℕ) → known_part n r ≡ cond (nat_eq n k) (known_part n p) None) → (n : ℕ) → lock.has_number n r ≡ true → lock.has_number n p ≡ true
+fewer_given k p r given n there = let q = some_there (known_part n r) there in ap is_some (there_in (nat_eq n k) (known_part n p) q.0 (sym (given n) ∙ q.1))
+
+calls_cut : (b : Bool) (x y : Option Part) → calls_in (cond b x y) ≡ cond b (calls_in x) (calls_in y)
+calls_cut true x y = refl
+calls_cut false x y = refl
+
+pub made_kept : (k : ℕ) (p r : Passing) → ((n : ℕ) → known_part n r ≡ cond (nat_eq n k) None (known_part n p)) → (n : ℕ) → calls_in (known_part n r) ≡ cond (nat_eq n k) None (calls_in (known_part n p))
+made_kept k p r kept n = ap calls_in (kept n) ∙ calls_cut (nat_eq n k) None (known_part n p)
+
+pub made_given : (k : ℕ) (p r : Passing) → ((n : ℕ) → known_part n r ≡ cond (nat_eq n k) (known_part n p) None) → (n : ℕ) → calls_in (known_part n r) ≡ cond (nat_eq n k) (calls_in (known_part n p)) None
+made_given k p r given n = ap calls_in (given n) ∙ calls_cut (nat_eq n k) (known_part n p) None
+
+-- ---- numbers are taken in
+
+abbrev pub Joins : Passing → Passing → Passing → Type 0
+Joins p o r = (n : ℕ) → known_part n r ≡ option_or (known_part n p) (known_part n o)
+
+of_either : {X : Type 0} (a b : Option X) (q : X) (P : Type 0) → option_or a b ≡ Some q → (a ≡ Some q → P) → (b ≡ Some q → P) → P
+of_either None b q P e f g = g e
+of_either (Some x) b q P e f g = f e
+
+pub joined_own : (c : ℕ) (born : List Call) (p o r : Passing) → IsSeated c born p → Joins p o r → known_part c r ≡ known_part c p
+joined_own c born p o r s parts = parts c ∙ first_there (known_part c p) (known_part c o) s.own
+
+pub joined_seated : (c d : ℕ) (born other : List Call) (p o r : Passing) → IsSeated c born p → IsSeated d other o → r.held ≡ None → Joins p o r → IsSeated c born r
+joined_seated c d born other p o r s t rests parts =
+    let same = joined_own c born p o r s parts in
+    record {
+      rests = rests;
+      own = ap is_some same ∙ s.own;
+      idle = λ n q is. of_either (known_part n p) (known_part n o) q (q.1 ≡ None) (sym (parts n) ∙ is) (s.idle n q) (t.idle n q);
+      since = subst (λ (x : Option Part). length born ≤ length (unwrap_or (option_map (λ (q : Part). q.0) x) [])) (sym same) s.since;
+    }
+
+pub joined_mine : (c : ℕ) (born : List Call) (p o r : Passing) → IsSeated c born p → Joins p o r → mine (seated c born r) ≡ mine (seated c born p)
+joined_mine c born p o r s parts = ap (λ x. drop (length born) (unwrap_or (calls_in x) [])) (joined_own c born p o r s parts)
+
+calls_or : (a b : Option Part) → calls_in (option_or a b) ≡ option_or (calls_in a) (calls_in b)
+calls_or None b = refl
+calls_or (Some x) b = refl
+
+pub made_joined : (p o r : Passing) → Joins p o r → (n : ℕ) → calls_in (known_part n r) ≡ option_or (calls_in (known_part n p)) (calls_in (known_part n o))
+made_joined p o r parts n = ap calls_in (parts n) ∙ calls_or (known_part n p) (known_part n o)
+
+pub joined_of : (l : Lock Limits) (c d : ℕ) (born other : List Call) (p o r : Passing) → IsSeatOf (shared l) (seated c born p) → IsSeatOf (shared l) (seated d other o) → ComesFrom l r → Joins p o r
+    → IsSeatOf (shared l) (seated c born r)
+joined_of l c d born other p o r h k own parts = record {
+  home = own.0;
+  limits = own.1;
+  callers = λ n there.
+      let q = some_there (known_part n r) (sym (number_same n c born r) ∙ there) in
+      of_either (known_part n p) (known_part n o) q.0 (IsCaller l.fixed n) (sym (parts n) ∙ q.1)
+      (λ e. h.callers n (number_same n c born p ∙ ap is_some e))
+      (λ e. k.callers n (number_same n d other o ∙ ap is_some e));
+}
+
+-- ---- the first seat
+
+pub first_seated : (born : List Call) (p : Passing) (kern : Kernel) → born ≡ known_calls 1 p → p.held ≡ None → kern.pending ≡ empty → 1 ≤ kern.limits.callers
+    → ((n : ℕ) → 1 ≤ n → n ≤ kern.limits.callers → known_part n p ≡ Some (part_of kern n))
+    → ((n : ℕ) → lock.has_number n p ≡ true → (1 ≤ n) × (n ≤ kern.limits.callers))
+    → IsSeated 1 born p
+first_seated born p kern b rests idle some parts numbers = record {
+  rests = rests;
+  own = ap is_some (parts 1 (at_least 1) some);
+  idle = λ n q is.
+      let within = numbers n (ap is_some is) in
+      ap (λ (x : Part). x.1) (same_Some q (part_of kern n) (sym is ∙ parts n within.0 within.1)) ∙ ap (λ m. get m n) idle ∙ get-empty nat_cmp n;
+  since = subst (λ (k : List Call). length k ≤ length (known_calls 1 p)) (sym b) (at_least (length (known_calls 1 p)));
+}
+
+-- ---- the end
+
+nowhere : (limits : Limits) (m : Pending) (n : ℕ) (o : Option Call) → ((k : ℕ) → IsSome (get m k) → IsCaller limits k) → ((k : ℕ) → IsCaller limits k → get m k ≡ None) → get m n ≡ o → get m n ≡ None
+nowhere limits m n None within idle is = is
+nowhere limits m n (Some k) within idle is = idle n (within n (ap is_some is))
+
+-- where no caller has a live call, none is live
+pub none_live : (limits : Limits) (m : Pending) → ((n : ℕ) → IsSome (get m n) → IsCaller limits n) → ((n : ℕ) → IsCaller limits n → get m n ≡ None) → m ≡ empty
+none_live limits m within idle = same_map nat_cmp_total nat_cmp-IsAntisymmetric m empty (λ n. nowhere limits m n (get m n) within idle refl ∙ sym (get-empty nat_cmp n))
+
+-- what a seat that has all numbers knows of the kernel
+pub knows_all : (c : ℕ) (born : List Call) (p : Passing) (kern : Kernel) (n : ℕ) → IsSeated c born p → has_number n (seated c born p) ≡ true
+    → ((k : ℕ) (q : Part) → known_part k p ≡ Some q → part_of kern k ≡ q) → (made n (seated c born p) ≡ Some (calls_of n kern.history)) × (get kern.pending n ≡ None)
+knows_all c born p kern n s has known =
+    let q = some_there (known_part n p) (sym (number_same n c born p) ∙ has) in
+    let its : part_of kern n ≡ q.0 = known n q.0 q.1 in
+    (ap calls_in q.1 ∙ ap (λ (x : Part). Some x.0) (sym its), ap (λ (x : Part). x.1) its ∙ s.idle n q.0 q.1)

@@ -37,6 +37,10 @@ pub record Sharing : Type 0 where
   pub home : TableId
   pub limits : Limits
 
+-- what contracts see of a kernel behind this lock
+abbrev pub shared : Lock Limits → Sharing
+shared l = record { home = l.table; limits = l.fixed }
+
 -- a seat: the kernel that it comes from and that kernel's limits, its caller, how many call entries of that caller stood in
 -- the history when the seat was made, the history that it has seen, and its numbers with what it knows of their parts
 pub record Seating : Type 0 where

@@ -49,11 +49,11 @@ pub struct Vfs {
 
 impl Model for Vfs {
     ghost use Rattle.std.specs.Prelude.{◌≡◌};
-    ghost use Rattle.vfs_core.specs.Seats.{Sharing};
+    ghost use Rattle.vfs_core.specs.Seats.{Sharing, shared};
 
     ghost Value = { Sharing };
 
-    ghost view = { λ v. record { home = v.lock.table; limits = v.lock.fixed } };
+    ghost view = { λ v. shared v.lock };
 
     ghost invariant = { λ v. v.lock.numbers ≡ v.lock.fixed.callers };
 }
@@ -140,19 +140,14 @@ impl Vfs {
         ensures own { IsSeatOf self.now seat.new }
         ensures caller { seat.new.caller ≡ seat.old.caller }
         ensures born { seat.new.born ≡ seat.old.born }
+        ensures numbers { (n : ℕ) → has_number n seat.new ≡ has_number n seat.old }
         ensures called { IfOk result (λ reply. Called self.now.limits seat.old seat.new call reply) }
         ensures back { IfErr result (λ back. back ≡ call) }
         ensures refused { OnErr result (CameBack self.now.limits seat.old seat.new) }
     {
         let caller = seat.caller;
         match begin_in_turn(rt, &self.lock, &mut seat.pass, caller, call) {
-            Ok(()) => Ok(end_in_turns(
-                rt,
-                alloc,
-                &self.lock,
-                &mut seat.pass,
-                caller,
-            )),
+            Ok(()) => Ok(end_in_turns(rt, alloc, &self.lock, &mut seat.pass, caller)),
             Err(call) => Err(call),
         }
     }
@@ -184,7 +179,8 @@ impl Vfs {
 impl Seat {
     /// The caller whose calls the seat makes.
     pub fn caller(&self) -> u32
-        ensures { result ≡ self.now.caller }
+        ensures caller { result ≡ self.now.caller }
+        ensures own { has_number self.now.caller self.now ≡ true }
     {
         self.caller
     }
