@@ -418,10 +418,6 @@ numbers_end limits c born p r t call reply s run n =
 pub numbers_back : (limits : Limits) (c : ℕ) (born : List Call) (p r : Passing) → TookTurn limits c p r → known_part c r ≡ known_part c p → (n : ℕ) → has_number n (seated c born r) ≡ has_number n (seated c born p)
 numbers_back limits c born p r took same n = ap (λ o. is_some (calls_in o)) (all_same limits c p r took same n)
 
--- a seat has its own number
-pub has_own : (c : ℕ) (born : List Call) (p : Passing) (s : Seating) → seated c born p ≡ s → IsSeated c born p → has_number s.caller s ≡ true
-has_own c born p s is held = subst (λ (x : Seating). has_number x.caller x ≡ true) is (number_same c c born p ∙ held.own)
-
 -- where one seat has one of two callers and another the other, together they have all
 pub two_numbers : (limits : Limits) (a b r : Seating) → limits.callers ≡ 2 → has_number 1 a ≡ true → has_number 2 b ≡ true → ((n : ℕ) → made n r ≡ option_or (made n a) (made n b))
     → (n : ℕ) → IsCaller limits n → has_number n r ≡ true
@@ -431,8 +427,8 @@ two_numbers limits a b r two first second parts n caller =
     by_number n 1 (has_number n r ≡ true)
     (λ e. ap is_some (parts n) ∙ ap (λ k. is_some (option_or (made k a) (made k b))) e ∙ ap is_some (first_there (made 1 a) (made 1 b) first) ∙ first)
     (λ apart.
-        let is : n ≡ 2 = omega (arith, apart) in
-        ap is_some (parts n) ∙ ap (λ k. is_some (option_or (made k a) (made k b))) is ∙ second_there (made 2 a) (made 2 b) second)
+    let is : n ≡ 2 = omega (arith, apart) in
+    ap is_some (parts n) ∙ ap (λ k. is_some (option_or (made k a) (made k b))) is ∙ second_there (made 2 a) (made 2 b) second)
 
 -- ---- a number is cut off
 

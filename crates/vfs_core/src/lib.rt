@@ -15,6 +15,8 @@ mod queue;
 mod revoking;
 mod seat;
 #[cfg(test)]
+mod seat_tests;
+#[cfg(test)]
 mod tests;
 mod turns;
 mod vfs;

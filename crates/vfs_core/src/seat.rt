@@ -1,3 +1,6 @@
+ghost use Rattle.std.specs.Prelude.{◌≡◌, true};
+ghost use Rattle.vfs_core.specs.Seats.{has_number};
+
 use crate::kern::Kern;
 use std::marker::Model;
 use std::snapshot::Snapshot;
@@ -25,4 +28,14 @@ impl Model for Seat {
     ghost view = { λ s. seated s.caller (known_calls s.caller s.born.value) s.pass };
 
     ghost invariant = { λ s. IsSeated s.caller (known_calls s.caller s.born.value) s.pass };
+}
+
+impl Seat {
+    /// The caller whose calls the seat makes.
+    pub fn caller(&self) -> u32
+        ensures caller { result ≡ self.now.caller }
+        ensures own { has_number self.now.caller self.now ≡ true }
+    {
+        self.caller
+    }
 }

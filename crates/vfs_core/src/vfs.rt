@@ -175,13 +175,3 @@ impl Vfs {
         kern
     }
 }
-
-impl Seat {
-    /// The caller whose calls the seat makes.
-    pub fn caller(&self) -> u32
-        ensures caller { result ≡ self.now.caller }
-        ensures own { has_number self.now.caller self.now ≡ true }
-    {
-        self.caller
-    }
-}
