@@ -4,3 +4,4 @@ pub mod KernLaws
 pub mod RoomLaws
 pub mod SureLaws
 pub mod TurnLaws
+pub mod SeatLaws

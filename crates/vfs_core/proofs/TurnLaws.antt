@@ -73,11 +73,11 @@ calls_append d (entry.Call e k s ∷ es) more =
 calls_append d (entry.Inner e x ∷ es) more = calls_append d es more
 
 -- an inner entry is no call
-inner_keeps : (d : ℕ) (h : List Entry) (c : ℕ) (x : Inner) → calls_of d (h ++ entry.Inner c x ∷ []) ≡ calls_of d h
+pub inner_keeps : (d : ℕ) (h : List Entry) (c : ℕ) (x : Inner) → calls_of d (h ++ entry.Inner c x ∷ []) ≡ calls_of d h
 inner_keeps d h c x = calls_append d h (entry.Inner c x ∷ []) ∙ append-nil (calls_of d h)
 
 -- and no doom is one
-dooms_keep : (d c : ℕ) (ats : List Ref) (es : List Entry) → calls_of d (dooms c ats ++ es) ≡ calls_of d es
+pub dooms_keep : (d c : ℕ) (ats : List Ref) (es : List Entry) → calls_of d (dooms c ats ++ es) ≡ calls_of d es
 dooms_keep d c [] es = refl
 dooms_keep d c (at ∷ ats) es = dooms_keep d c ats es
 

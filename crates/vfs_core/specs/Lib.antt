@@ -5,3 +5,4 @@ pub mod Queues
 pub mod Work
 pub mod Turning
 pub mod Filling
+pub mod Seats

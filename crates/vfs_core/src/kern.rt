@@ -1,4 +1,4 @@
-ghost use Rattle.std.specs.Prelude.{◌≡◌, ◌∷◌, ◌++◌, [], true, IsSome, IfSome, is_some, IfOk, IfErr, OnOk, OnErr, None};
+ghost use Rattle.std.specs.Prelude.{ℕ, ◌≡◌, ◌∷◌, ◌++◌, [], true, IsSome, IfSome, is_some, IfOk, IfErr, OnOk, OnErr, None};
 ghost use Rattle.std.specs.FinMap as map;
 ghost use Rattle.vfs_tree.specs.Limits.{IsLawful, IsCaller};
 ghost use Rattle.vfs_tree.specs.Start.{start_world};
@@ -153,6 +153,8 @@ impl Kern {
     pub fn limits(&self) -> Limits
         ensures limits { result ≡ self.now.limits }
         ensures lawful { IsLawful result }
+        // Only callers have live calls.
+        ensures within { (c : ℕ) → IsSome (map.get self.now.pending c) → IsCaller self.now.limits c }
     {
         self.limits
     }

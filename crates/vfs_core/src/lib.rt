@@ -14,8 +14,15 @@ mod ledger;
 mod queue;
 mod revoking;
 mod rooms;
+mod seat;
+#[cfg(test)]
+mod seat_tests;
 #[cfg(test)]
 mod tests;
+mod turns;
+mod vfs;
 
 pub use job::{Job, Turned};
 pub use kern::{Kern, Stepped};
+pub use seat::Seat;
+pub use vfs::Vfs;

@@ -17,7 +17,7 @@ const LIMITS: Limits = Limits {
 
 // What a turn did, as a table has it.
 #[derive(Clone, Copy, Debug, PartialEq, Eq)]
-enum Seen {
+pub enum Seen {
     Began,
     Idle,
     NoMemory,
@@ -28,7 +28,7 @@ enum Seen {
     Other,
 }
 
-fn reply_as(reply: &Reply) -> Seen {
+pub fn reply_as(reply: &Reply) -> Seen {
     match reply {
         Reply::Done => Seen::Done,
         Reply::Stat {
@@ -54,13 +54,13 @@ fn as_seen(turned: &Turned) -> Seen {
     }
 }
 
-fn mkdir(alloc: Global, path: &[u8]) -> Result<Call, AllocError> {
+pub fn mkdir(alloc: Global, path: &[u8]) -> Result<Call, AllocError> {
     Ok(Call::Mkdir {
         p: Bytes::copy_of(alloc, path)?,
     })
 }
 
-fn stat(alloc: Global, path: &[u8]) -> Result<Call, AllocError> {
+pub fn stat(alloc: Global, path: &[u8]) -> Result<Call, AllocError> {
     Ok(Call::Stat {
         p: Bytes::copy_of(alloc, path)?,
     })
@@ -100,7 +100,7 @@ fn lines(alloc: Global) -> Result<Vec<Line>, AllocError>
 }
 
 // Whether the history has calls of these callers, in this order.
-fn has_order(kern: &Kern, wanted: &[u32]) -> bool {
+pub fn has_order(kern: &Kern, wanted: &[u32]) -> bool {
     let history = kern.history();
     for (at, wanted) in wanted.iter().enumerate() {
         match history.get(at) {
