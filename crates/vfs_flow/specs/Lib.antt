@@ -1,4 +1,5 @@
 pub mod Faults
+pub mod Gates
 pub mod Intake
 pub mod Known
 pub mod Reads

@@ -1,8 +1,8 @@
 ghost use Rattle.std.specs.Prelude.{◌≤◌, IfOk, Some};
 
 use crate::{
-    Got, MemSink, MemSource, Put, Sink, Source, StdSink, StdSource, SureSink, SureSource,
-    WholeRead, WholeWrite, read_to_end, write_all,
+    FlagGate, Gate, Got, MeetGate, MemSink, MemSource, OpenGate, Pace, Put, Sink, Source, StdSink,
+    StdSource, SureSink, SureSource, WholeRead, WholeWrite, read_to_end, write_all,
 };
 use std::io;
 use std::io::{ErrorKind, Read, Write};
@@ -268,4 +268,58 @@ fn a_writer_is_a_sink(rt: HostRuntime) -> Result<(), Fail> {
     assert_eq!(rt; write_all(&mut sink, TEXT), WholeWrite::Failed);
     assert_eq!(rt; room, *b"one ");
     Ok(())
+}
+
+// Whether a gate holds these calls, in their order.
+fn holds<G: Gate>(gate: &G, calls: [(u32, u32); 3]) -> [bool; 3] {
+    calls.map(|(caller, call)| gate.before(caller, call) == Pace::Hold)
+}
+
+#[test]
+fn an_open_gate_holds_nobody(rt: HostRuntime) {
+    assert_eq!(rt;
+        holds(&OpenGate, [(1, 0), (1, 0), (2, 7)]),
+        [false, false, false]
+    );
+    OpenGate.told(1, 0);
+    assert_eq!(rt;
+        holds(&OpenGate, [(1, 1), (16, 0), (2, 7)]),
+        [false, false, false]
+    );
+}
+
+#[test]
+fn a_flag_gate_holds_one_call_until_the_other_was_told(rt: HostRuntime) {
+    let gate = FlagGate::new(1, 0, 2, 3);
+    assert_eq!(rt;
+        holds(&gate, [(1, 1), (2, 0), (2, 3)]),
+        [false, false, false]
+    );
+    assert_eq!(rt; gate.holds(), 0);
+    assert_eq!(rt; holds(&gate, [(1, 0), (3, 0), (1, 0)]), [true, false, true]);
+    gate.told(2, 2);
+    gate.told(1, 3);
+    assert_eq!(rt; holds(&gate, [(1, 0), (1, 0), (1, 0)]), [true, true, true]);
+    assert_eq!(rt; gate.holds(), 5);
+    gate.told(2, 3);
+    assert_eq!(rt;
+        holds(&gate, [(1, 0), (1, 0), (2, 3)]),
+        [false, false, false]
+    );
+    assert_eq!(rt; gate.holds(), 5);
+}
+
+#[test]
+fn a_call_alone_misses_the_other(rt: HostRuntime) {
+    let gate = MeetGate::new(1, 0, 2, 3);
+    assert_eq!(rt;
+        holds(&gate, [(1, 1), (2, 0), (3, 0)]),
+        [false, false, false]
+    );
+    assert!(rt; !gate.missed());
+    assert_eq!(rt; gate.before(2, 3), Pace::Go);
+    assert!(rt; gate.missed());
+    gate.told(2, 3);
+    assert_eq!(rt; gate.before(1, 0), Pace::Go);
+    assert!(rt; gate.missed());
 }
