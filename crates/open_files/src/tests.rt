@@ -24,10 +24,10 @@ fn offset_of(open: Option<&Open>) -> Option<u64> {
     }
 }
 
-// Opens the descriptors from 0 on.
+// Opens the descriptors of caller 1 from 0 on.
 fn opens_in_a_row(table: &mut OpenTable, count: u32) -> bool
-    requires { table.old.callers ≡ 1 }
-    ensures { table.new.callers ≡ 1 }
+    requires { table.old.callers ≡ 2 }
+    ensures { table.new.callers ≡ 2 }
 {
     let mut all = true;
     for fd in 0..count {
@@ -84,9 +84,15 @@ fn an_open_file_is_exchanged(rt: HostRuntime) -> Result<(), Fail> {
 
 #[test]
 fn the_33rd_descriptor(rt: HostRuntime) -> Result<(), Fail> {
-    let mut table = OpenTable::new(rt.alloc(), 1, 32)?;
+    let mut table = OpenTable::new(rt.alloc(), 2, 33)?;
     assert!(rt; opens_in_a_row(&mut table, 32));
     assert!(rt; table.open(1, file(0)) == Err(OpenFault::CallerFull));
+    assert!(rt; table.open(2, file(0)) == Ok(0));
+    assert!(rt; table.open(2, file(0)) == Err(OpenFault::AllFull));
+    assert!(rt; table.open(1, file(0)) == Err(OpenFault::CallerFull));
+    assert!(rt; table.close(1, 31).is_some());
+    assert!(rt; table.open(2, file(0)) == Ok(1));
+    assert!(rt; table.open(1, file(0)) == Err(OpenFault::AllFull));
     Ok(())
 }
 
