@@ -119,7 +119,14 @@ impl Kern {
             unreachable!()
         };
         let room = take_room(&mut self.rooms, caller);
-        match advance(alloc, &mut self.world, &mut self.history, caller, call, room) {
+        match advance(
+            alloc,
+            &mut self.world,
+            &mut self.history,
+            caller,
+            call,
+            room,
+        ) {
             Advanced::Went => Stepped::Went,
             Advanced::Ended { answer } => Stepped::Ended {
                 reply: end(&mut self.pending, &mut self.history, caller, answer),

@@ -30,11 +30,7 @@ fn room_for(alloc: Global, call: &Call) -> Result<Option<Room>, AllocError>
 
 /// Puts a caller's room, if there is one, in the place of what it had. The only fault is want of memory.
 #[tactic(auto, using(crate::proofs::RoomLaws::put_there, crate::proofs::RoomLaws::taken_there, crate::proofs::RoomLaws::put_others, crate::proofs::KernLaws::removed_other))]
-fn put_room(
-    rooms: &mut NumberMap<Room>,
-    caller: u32,
-    room: Option<Room>,
-) -> Result<(), AllocError>
+fn put_room(rooms: &mut NumberMap<Room>, caller: u32, room: Option<Room>) -> Result<(), AllocError>
     ensures put { OnOk result (map.get rooms.new caller ≡ room) }
     ensures others { (other : ℕ) → (other == caller) ≡ false → map.get rooms.new other ≡ map.get rooms.old other }
 {

@@ -229,10 +229,12 @@ fn reads(alloc: Global) -> Result<Vec<Line>, AllocError>
 // Whether a call of the history was answered by these bytes.
 fn gave(kern: &Kern, at: usize, wanted: &[u8]) -> bool {
     match kern.history().get(at) {
-        Some(Entry::Call {
-            reply: Reply::Bytes { bytes },
-            ..
-        }) => bytes.as_slice() == wanted,
+        Some(
+            Entry::Call {
+                reply: Reply::Bytes { bytes },
+                ..
+            },
+        ) => bytes.as_slice() == wanted,
         _ => false,
     }
 }
@@ -240,10 +242,12 @@ fn gave(kern: &Kern, at: usize, wanted: &[u8]) -> bool {
 // Whether a call of the history was refused so.
 fn refused(kern: &Kern, at: usize, wanted: Errno) -> bool {
     match kern.history().get(at) {
-        Some(Entry::Call {
-            reply: Reply::Fail { errno },
-            ..
-        }) => *errno == wanted,
+        Some(
+            Entry::Call {
+                reply: Reply::Fail { errno },
+                ..
+            },
+        ) => *errno == wanted,
         _ => false,
     }
 }
