@@ -27,8 +27,8 @@ returns-in-Err-NoMemory-clause-came c =
     (none_there (get c.args.world.now.leaving c.args.caller) (λ some. lacks.sure some c.in-Err-NoMemory.field-0-is)) lacks.answered.1)
 
 pub returns-in-Ok-clause-sure : goal.returns-in-Ok-clause-sure
-returns-in-Ok-clause-sure c = λ none.
-    sure_answer c.args.world.now c.answer_call.new.world c.args.caller c.args.call.now c.in-Ok.answer.reply none c.in-Ok.ensures.answered
+returns-in-Ok-clause-sure c = λ _.
+    sure_answer c.args.world.now c.answer_call.new.world c.args.caller c.args.call.now c.in-Ok.answer.reply c.in-Ok.ensures.answered
 
 pub returns-in-Err-Refused-clause-sure : goal.returns-in-Err-Refused-clause-sure
 returns-in-Err-Refused-clause-sure c = λ none.

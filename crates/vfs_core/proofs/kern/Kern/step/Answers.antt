@@ -21,8 +21,8 @@ invariant_of-self c =
     let goes = c.in-Went.ensures.advanced in (
       kept-went c.self.inside.limits c.self.inside.world c.advance.new.world c.self.inside.history c.advance.new.history c.self.inside.pending c.args.caller c.in-Some.call.now goes.0
           c.self.invariant.0 (sym c.in-Some.ensures) goes.1 c.advance.ensures.kept,
-      rooms-went c.self.inside.pending c.self.inside.rooms c.take_room.new.rooms c.args.caller c.in-Some.call.now
-          c.self.invariant.1 (sym c.in-Some.ensures) c.take_room.ensures.others c.in-Went.ensures.sure,
+      rooms-went c.self.inside.pending c.self.inside.rooms c.take_room-room.new.rooms c.args.caller c.in-Some.call.now
+          c.self.invariant.1 (sym c.in-Some.ensures) c.take_room-room.ensures.others c.in-Went.ensures.sure,
     )
 
 pub returns-in-Went-clause-legal : goal.returns-in-Went-clause-legal
@@ -48,12 +48,13 @@ ended : (c : After-end) → Ends c.self.inside.world c.advance.new.world c.self.
 ended c = subst (Ends c.self.inside.world c.advance.new.world c.self.inside.history c.advance.new.history c.args.caller c.in-Some.call.now) (sym c.end.ensures.reply) c.in-Ended.ensures.advanced
 
 pub invariant_of-self-in-Ended : goal.invariant_of-self-in-Ended
-invariant_of-self-in-Ended c = (
-  kept-ended c.self.inside.limits c.self.inside.world c.advance.new.world c.self.inside.history c.advance.new.history c.end.new.history c.self.inside.pending c.end.new.pending
-      c.args.caller c.in-Some.call.now c.end.result c.self.invariant.0 (sym c.in-Some.ensures) (ended c)
-      c.end.ensures.removed (c.end.ensures.entered c.in-Some.call.now (sym c.in-Some.ensures)) c.end.ensures.spare c.advance.ensures.kept,
-  rooms-ended c.self.inside.pending c.end.new.pending c.self.inside.rooms c.take_room.new.rooms c.args.caller c.self.invariant.1 c.take_room.ensures.others c.end.ensures.removed,
-)
+invariant_of-self-in-Ended c =
+    (
+      kept-ended c.self.inside.limits c.self.inside.world c.advance.new.world c.self.inside.history c.advance.new.history c.end.new.history c.self.inside.pending c.end.new.pending
+          c.args.caller c.in-Some.call.now c.end.result c.self.invariant.0 (sym c.in-Some.ensures) (ended c)
+          c.end.ensures.removed (c.end.ensures.entered c.in-Some.call.now (sym c.in-Some.ensures)) c.end.ensures.spare c.advance.ensures.kept,
+      rooms-ended c.self.inside.pending c.end.new.pending c.self.inside.rooms c.take_room-room.new.rooms c.args.caller c.self.invariant.1 c.take_room-room.ensures.others c.end.ensures.removed,
+    )
 
 pub returns-in-Ended-clause-legal : goal.returns-in-Ended-clause-legal
 returns-in-Ended-clause-legal c = (invariant_of-self-in-Ended c).0.legal
@@ -72,7 +73,7 @@ returns-in-Ended-clause-stepped c =
 
 pub advance-requires-clause-holds : goal.advance-requires-clause-holds
 advance-requires-clause-holds c =
-    room_taken c.self.inside.pending c.self.inside.rooms c.args.caller c.in-Some.call.now c.take_room.result c.self.invariant.1 (sym c.in-Some.ensures) c.take_room.ensures.taken
+    room_taken c.self.inside.pending c.self.inside.rooms c.args.caller c.in-Some.call.now c.take_room-room.result c.self.invariant.1 (sym c.in-Some.ensures) c.take_room-room.ensures.taken
 
 pub returns-in-Went-clause-sure : goal.returns-in-Went-clause-sure
 returns-in-Went-clause-sure c = λ none.
