@@ -48,13 +48,12 @@ ended : (c : After-end) → Ends c.self.inside.world c.advance.new.world c.self.
 ended c = subst (Ends c.self.inside.world c.advance.new.world c.self.inside.history c.advance.new.history c.args.caller c.in-Some.call.now) (sym c.end.ensures.reply) c.in-Ended.ensures.advanced
 
 pub invariant_of-self-in-Ended : goal.invariant_of-self-in-Ended
-invariant_of-self-in-Ended c =
-    (
-      kept-ended c.self.inside.limits c.self.inside.world c.advance.new.world c.self.inside.history c.advance.new.history c.end.new.history c.self.inside.pending c.end.new.pending
-          c.args.caller c.in-Some.call.now c.end.result c.self.invariant.0 (sym c.in-Some.ensures) (ended c)
-          c.end.ensures.removed (c.end.ensures.entered c.in-Some.call.now (sym c.in-Some.ensures)) c.end.ensures.spare c.advance.ensures.kept,
-      rooms-ended c.self.inside.pending c.end.new.pending c.self.inside.rooms c.take_room-room.new.rooms c.args.caller c.self.invariant.1 c.take_room-room.ensures.others c.end.ensures.removed,
-    )
+invariant_of-self-in-Ended c = (
+  kept-ended c.self.inside.limits c.self.inside.world c.advance.new.world c.self.inside.history c.advance.new.history c.end.new.history c.self.inside.pending c.end.new.pending
+      c.args.caller c.in-Some.call.now c.end.result c.self.invariant.0 (sym c.in-Some.ensures) (ended c)
+      c.end.ensures.removed (c.end.ensures.entered c.in-Some.call.now (sym c.in-Some.ensures)) c.end.ensures.spare c.advance.ensures.kept,
+  rooms-ended c.self.inside.pending c.end.new.pending c.self.inside.rooms c.take_room-room.new.rooms c.args.caller c.self.invariant.1 c.take_room-room.ensures.others c.end.ensures.removed,
+)
 
 pub returns-in-Ended-clause-legal : goal.returns-in-Ended-clause-legal
 returns-in-Ended-clause-legal c = (invariant_of-self-in-Ended c).0.legal
