@@ -115,6 +115,7 @@ ends_at_once w v old new c call r answered same room = record {
   entered = same ∙ sym (append-nil old.entries);
   room = omega arith;
   answered = answered;
+  only = inl refl;
 }
 
 -- memory was wanting for what it needs
@@ -135,6 +136,7 @@ ends_revoked w v old new c call at node r revoke needs under all none done =
       entered = all.entered;
       room = all.room;
       answered = subst (λ y. MayAnswer v (map (λ a. c) all.ats) c call y v) (sym done) (may_answer v v (map (λ a. c) all.ats) c call reply.Done made.done);
+      only = inr revoke;
     }
 
 under_some : (f : Seen → NodeId) (o : Option Seen) → IsSome o → None ≡ option_map f o → ⊥

@@ -1,5 +1,5 @@
 -- What a call comes to, and how far a step takes it.
-use Rattle.std.specs.Prelude.{ℕ, ◌+◌, ◌≡◌, ◌≤◌, ◌++◌, ◌∷◌, false, List, [], map, Option, Some, None, IsSome}
+use Rattle.std.specs.Prelude.{ℕ, ◌+◌, ◌≡◌, ◌≤◌, ◌++◌, ◌∷◌, ◌⊎◌, false, List, [], map, Option, Some, None, IsSome}
 use Rattle.std.specs.FinMap.{get}
 use Rattle.vfs_tree.specs.declared.walk.NodeId.{NodeId}
 use Rattle.vfs_tree.specs.declared.walk.Step.TheVariants.{Wants}
@@ -14,7 +14,7 @@ use Rattle.call_model.specs.declared.entry.Inner.{Inner}
 use Rattle.call_model.specs.declared.entry.Inner.TheVariants.{Shadow, CopyUp, Detach, Doom}
 use Rattle.call_model.specs.declared.entry.Ref.{Ref}
 use Rattle.call_model.specs.declared.reply.Reply.{Reply}
-use Rattle.call_laws.specs.Fitting.{TakesNumber}
+use Rattle.call_laws.specs.Fitting.{IsRevoke, TakesNumber}
 use Rattle.call_laws.specs.Live.{live}
 use Rattle.call_laws.specs.Revoking.{first_open_on}
 use Rattle.vfs_core.specs.Stepping.{dooms}
@@ -66,7 +66,7 @@ pub record Goes (w v : World) (old new : Recorded) (c : ℕ) (call : Call) (x : 
   pub room : live v + old.spare ≤ live w + new.spare
   pub leaves : IsSome (doomed_by x) → IsSome (get w.leaving c)
 
--- a call ends: the dooms that it needs were made and entered, with room as before, and then it is answered
+-- a call ends: the dooms that it needs, if it is a revoke, were made and entered, with room as before, and then it is answered
 pub record Ends (w v : World) (old new : Recorded) (c : ℕ) (call : Call) (r : Reply) : Type 0 where
   pub ats : List Ref
   pub mid : World
@@ -74,6 +74,7 @@ pub record Ends (w v : World) (old new : Recorded) (c : ℕ) (call : Call) (r : 
   pub entered : new.entries ≡ old.entries ++ dooms c ats
   pub room : live mid + old.spare ≤ live w + new.spare
   pub answered : MayAnswer mid (map (λ at. c) ats) c call r v
+  pub only : (ats ≡ []) ⊎ IsRevoke call
 
 -- how far a step takes a call
 abbrev pub Advances : World → World → Recorded → Recorded → ℕ → Call → Advanced → Type 0

@@ -68,6 +68,7 @@ returns-in-Ended-clause-stepped c =
           (ended_entries c.self.inside.world c.advance.new.world c.self.inside.history c.advance.new.history c.end.new.history c.args.caller c.in-Some.call.now c.end.result ends
           (c.end.ensures.entered c.in-Some.call.now (sym c.in-Some.ensures)))
           c.end.ensures.removed,
+      ends.only,
     )
 
 pub advance-requires-clause-holds : goal.advance-requires-clause-holds
