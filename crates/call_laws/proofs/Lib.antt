@@ -31,5 +31,7 @@ pub mod BytesLaws
 pub mod WholeLaws
 pub mod DetachLaws
 pub mod DropLaws
+pub mod ClimbLaws
+pub mod MoveLaws
 pub mod GivenLaws
 pub mod NameLaws
