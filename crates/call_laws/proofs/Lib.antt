@@ -35,3 +35,4 @@ pub mod ClimbLaws
 pub mod MoveLaws
 pub mod GivenLaws
 pub mod NameLaws
+pub mod RenameLaws

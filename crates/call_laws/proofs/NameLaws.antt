@@ -192,7 +192,7 @@ whole-set w h p d n good file upper t same =
     (file_in_store w p b.store s e rests file)
     (ap is_some (sym (kind_in_store w p b.store s e rests)) ∙ good.sound.base))
 
-eq_so : (a b : ℕ) → not (a == b) ≡ false → a ≡ b
+pub eq_so : (a b : ℕ) → not (a == b) ≡ false → a ≡ b
 eq_so a b e = eqb-true a b (is_so (a == b) e)
 
 pub whole-link : (w : World) (a b : Found) → FreeFound (facts_of w) a → FreeFound (facts_of w) b → Well w a → Well w b → IsWhole w → Keeps (LeavesSo IsWhole) (MakesNode w) (rows.link w a b)
@@ -207,7 +207,7 @@ whole-link w a b fa fb wa wb h =
 -- ---- unlink, rmdir and undelete
 
 -- what a name of the store gives is what is seen at it
-seen_at : (w : World) → IsWhole w → (d : Seen) (n : List ℕ) (o : Option Seen) → IsTarget (facts_of w) d n o → (t : Store) → get w.stores (At w d).store ≡ Some t → (j : ℕ) → entry_of t (At w d).ino n ≡ Some (Ino j)
+pub seen_at : (w : World) → IsWhole w → (d : Seen) (n : List ℕ) (o : Option Seen) → IsTarget (facts_of w) d n o → (t : Store) → get w.stores (At w d).store ≡ Some t → (j : ℕ) → entry_of t (At w d).ino n ≡ Some (Ino j)
     → (P : Type 0) → ((q : Seen) → o ≡ Some q → is_low q ≡ false → (At w q).ino ≡ j → (At w q).store ≡ (At w d).store → P) → P
 seen_at w h d n o x t e j at P k = by o refl (given_target (facts_of w) (view_of w h) d n o x)
   where
