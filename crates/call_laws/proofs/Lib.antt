@@ -35,4 +35,5 @@ pub mod ClimbLaws
 pub mod MoveLaws
 pub mod GivenLaws
 pub mod NameLaws
+pub mod CopyLaws
 pub mod RenameLaws
