@@ -108,10 +108,17 @@ whole-turned v m u n q i h there file =
         apart = h.sound.apart;
       };
       lasts = record {
-        numbered = h.lasts.numbered; mounts = h.lasts.mounts; roots = h.lasts.roots; parents = h.lasts.parents; first = h.lasts.first; uncut = h.lasts.uncut; overs = h.lasts.overs;
+        numbered = h.lasts.numbered;
+        mounts = h.lasts.mounts;
+        roots = h.lasts.roots;
+        parents = h.lasts.parents;
+        first = h.lasts.first;
+        uncut = h.lasts.uncut;
+        overs = h.lasts.overs;
         opens = λ k. subst (λ x. IfSome x (λ o. o.dead ≡ false → IsOver g o.place)) (sym (get_each pair_total (turned_open from to) v.opens k))
             (mapped (turned_open from to) (λ o. o.dead ≡ false → IsOver g o.place) (λ o s e. turned_over g m u n q i there file o.place (s e)) (get v.opens k) (h.lasts.opens k));
-        cwds = h.lasts.cwds; left = h.lasts.left;
+        cwds = h.lasts.cwds;
+        left = h.lasts.left;
         counted = record { mounts = h.lasts.counted.mounts; stores = h.lasts.counted.stores; most = h.lasts.counted.most; inodes = h.lasts.counted.inodes };
       };
     }

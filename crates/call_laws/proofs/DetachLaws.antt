@@ -209,9 +209,10 @@ module _ (w : World) (c m : ℕ) (h : IsWhole w) (none : get w.leaving c ≡ Non
       → IfSome o (λ t. t.cut ≡ false → EachPlace (IsUncut f) t) → IfSome (option_map (cut_with w.mounts m) o) (λ t. t.cut ≡ false → EachPlace (IsUncut g) t)
   mount_uncut n (Some t) at number below over uncut = λ cut.
       let alive : t.cut ≡ false = alive_before t.cut (is_of w.mounts m t.number) cut in
-      let apart : is_of w.mounts m n ≡ false = sym (ap (is_of w.mounts m) number) ∙ apart_then t.cut (is_of w.mounts m t.number) cut in
-      (on_uncut n t at number alive t.on refl (over alive).0 (uncut alive).0,
-      layers_uncut n t.kind (ap (option_map (λ (t : Mount). t.kind)) at) below.1 (over alive).1 apart (uncut alive).1)
+      let apart : is_of w.mounts m n ≡ false = sym (ap (is_of w.mounts m) number) ∙ apart_then t.cut (is_of w.mounts m t.number) cut in (
+        on_uncut n t at number alive t.on refl (over alive).0 (uncut alive).0,
+        layers_uncut n t.kind (ap (option_map (λ (t : Mount). t.kind)) at) below.1 (over alive).1 apart (uncut alive).1,
+      )
   mount_uncut n None at number below over uncut = tt
 
   -- ---- mount 0

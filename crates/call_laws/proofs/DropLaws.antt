@@ -234,9 +234,11 @@ module _ (t new : Store) (alike : AreAlike t new) (well : IsWell t) (Gone : ℕ 
   kept_once d i m e dir other =
       let was = dir_before i dir in
       let old = well.names.once d i m (old_entry d i m e dir) was other in
-      let p : d ≡ parent_by i (dir_in new i) = old.0 ∙ sym (alike.parents i) in
-      (p, name_is new i m dir (subst (λ x. entry_of new x m ≡ Some (Ino i)) p e) (λ k f.
-      ap name_or (sym (well.names.once (parent_by i (dir_in new i)) i k (old_entry (parent_by i (dir_in new i)) i k f dir) was other).1 ∙ old.1)))
+      let p : d ≡ parent_by i (dir_in new i) = old.0 ∙ sym (alike.parents i) in (
+        p,
+        name_is new i m dir (subst (λ x. entry_of new x m ≡ Some (Ino i)) p e) (λ k f.
+            ap name_or (sym (well.names.once (parent_by i (dir_in new i)) i k (old_entry (parent_by i (dir_in new i)) i k f dir) was other).1 ∙ old.1)),
+      )
 
   -- the store keeps all that it should
   pub dropped_kept : IsKept t new
@@ -395,7 +397,7 @@ module _ (t : Store) (white hides : Bool) (from : ℕ) (old : List ℕ) (to : �
   file_stays : (d i : ℕ) (m : List ℕ) → entry_of t d m ≡ Some (Ino i) → NoDir t i ⊎ (entry_of four d m ≡ Some (Ino i))
   file_stays d i m e =
       let moved_on : (o : Option NameEntry) → d ≡ from → m ≡ old → NoDir t i ⊎ (o ≡ Some (Ino i)) = λ o p q.
-          inl (subst (NoDir t) (ap inode_of (sym at ∙ sym (ap (λ y. entry_of t y old) p) ∙ sym (ap (entry_of t d) q) ∙ e)) file) in
+      inl (subst (NoDir t) (ap inode_of (sym at ∙ sym (ap (λ y. entry_of t y old) p) ∙ sym (ap (entry_of t d) q) ∙ e)) file) in
       cases d m (λ o. NoDir t i ⊎ (o ≡ Some (Ino i))) (λ p q. inl (target i (sym (ap (λ y. entry_of t y n) p) ∙ sym (ap (entry_of t d) q) ∙ e))) (moved_on (Some White)) (moved_on None)
       (λ j is same. none_some (no_dir t d m (get t.nodes d) (subst (NoDir t) (sym same) (target j is))) e) (inr e)
 

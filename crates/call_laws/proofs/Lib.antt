@@ -36,4 +36,5 @@ pub mod MoveLaws
 pub mod GivenLaws
 pub mod NameLaws
 pub mod CopyLaws
+pub mod NeededLaws
 pub mod RenameLaws

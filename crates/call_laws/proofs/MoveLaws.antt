@@ -244,7 +244,7 @@ module _ (t : Store) (white hides : Bool) (from : ℕ) (old : List ℕ) (to : �
   dir_stays : (d i : ℕ) (m : List ℕ) → entry_of t d m ≡ Some (Ino i) → Replaced i ⊎ ((i ≡ x) ⊎ (entry_of four d m ≡ Some (Ino i)))
   dir_stays d i m e =
       let on : (o : Option NameEntry) → d ≡ from → m ≡ old → Replaced i ⊎ ((i ≡ x) ⊎ (o ≡ Some (Ino i))) = λ o p q.
-          inr (inl (ap inode_of (sym e ∙ ap (entry_of t d) q ∙ ap (λ z. entry_of t z old) p ∙ at))) in
+      inr (inl (ap inode_of (sym e ∙ ap (entry_of t d) q ∙ ap (λ z. entry_of t z old) p ∙ at))) in
       cases d m (λ o. Replaced i ⊎ ((i ≡ x) ⊎ (o ≡ Some (Ino i)))) (λ p q. inl (sym (ap (λ z. entry_of t z n) p) ∙ sym (ap (entry_of t d) q) ∙ e)) (on (Some White)) (on None)
       (λ j is same. absurd (target j is i m (sym (ap (λ z. entry_of t z m) same) ∙ e))) (inr (inr e))
 

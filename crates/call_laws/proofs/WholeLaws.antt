@@ -202,9 +202,16 @@ whole-made w s u n node h room linked free fresh =
 
 lasting-open : (w : World) (at : ℕ × ℕ) (o : Open) → IsLasting w → (o.dead ≡ false → IsOver (facts_of w) o.place) → IsLasting (record w { opens = insert w.opens at o })
 lasting-open w at o h over = record {
-  numbered = h.numbered; mounts = h.mounts; roots = h.roots; parents = h.parents; first = h.first; uncut = h.uncut; overs = h.overs;
+  numbered = h.numbered;
+  mounts = h.mounts;
+  roots = h.roots;
+  parents = h.parents;
+  first = h.first;
+  uncut = h.uncut;
+  overs = h.overs;
   opens = λ k. by_key pair_total pair_exact w.opens at o k (λ x. IfSome x (λ o. o.dead ≡ false → IsOver (facts_of w) o.place)) (λ _. over) (h.opens k);
-  cwds = h.cwds; left = h.left;
+  cwds = h.cwds;
+  left = h.left;
   counted = record { mounts = h.counted.mounts; stores = h.counted.stores; most = h.counted.most; inodes = h.counted.inodes };
 }
 
@@ -214,15 +221,28 @@ gone P false x h = h
 
 lasting-closed : (w : World) (at : ℕ × ℕ) → IsLasting w → IsLasting (record w { opens = remove w.opens at })
 lasting-closed w at h = record {
-  numbered = h.numbered; mounts = h.mounts; roots = h.roots; parents = h.parents; first = h.first; uncut = h.uncut; overs = h.overs;
+  numbered = h.numbered;
+  mounts = h.mounts;
+  roots = h.roots;
+  parents = h.parents;
+  first = h.first;
+  uncut = h.uncut;
+  overs = h.overs;
   opens = λ k. subst (λ x. IfSome x (λ o. o.dead ≡ false → IsOver (facts_of w) o.place)) (sym (get-remove pair_total w.opens at k)) (gone (λ o. o.dead ≡ false → IsOver (facts_of w) o.place) (eq_by_cmp pair_cmp k at) (get w.opens k) (h.opens k));
-  cwds = h.cwds; left = h.left;
+  cwds = h.cwds;
+  left = h.left;
   counted = record { mounts = h.counted.mounts; stores = h.counted.stores; most = h.counted.most; inodes = h.counted.inodes };
 }
 
 lasting-cwd : (w : World) (c : ℕ) (d : Cwd) → IsLasting w → IsOver (facts_of w) d.place → is_dir (facts_of w) d.place ≡ true → IsLasting (record w { cwds = insert w.cwds c d })
 lasting-cwd w c d h over dir = record {
-  numbered = h.numbered; mounts = h.mounts; roots = h.roots; parents = h.parents; first = h.first; uncut = h.uncut; overs = h.overs;
+  numbered = h.numbered;
+  mounts = h.mounts;
+  roots = h.roots;
+  parents = h.parents;
+  first = h.first;
+  uncut = h.uncut;
+  overs = h.overs;
   opens = h.opens;
   cwds = λ k. by_key nat_cmp_total exact_unsigned w.cwds c d k (λ x. IfSome x (λ d. d.dead ≡ false → IsOver (facts_of w) d.place × (is_dir (facts_of w) d.place ≡ true))) (λ _ _. (over, dir)) (h.cwds k);
   left = h.left;
