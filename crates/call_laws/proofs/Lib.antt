@@ -36,5 +36,7 @@ pub mod MoveLaws
 pub mod GivenLaws
 pub mod NameLaws
 pub mod CopyLaws
+pub mod MountLaws
+pub mod UmountLaws
 pub mod NeededLaws
 pub mod RenameLaws

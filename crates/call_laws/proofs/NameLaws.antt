@@ -258,7 +258,7 @@ shows_lifted w (Go b) free = found_so refl
 shows_lifted w (Refuse e) free = refused
 shows_lifted w (Wants x) free = keeps-shadow w x free
 
-check_so : {N : Inner → Type 0} {P : Type 0} (b : Bool) (e : Errno) → (b ≡ false → P) → Keeps (λ _. P) N (refuse_if b e)
+pub check_so : {N : Inner → Type 0} {P : Type 0} (b : Bool) (e : Errno) → (b ≡ false → P) → Keeps (λ _. P) N (refuse_if b e)
 check_so true e h = refused
 check_so false e h = found_so (h refl)
 
