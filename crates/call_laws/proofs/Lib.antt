@@ -38,5 +38,6 @@ pub mod NameLaws
 pub mod CopyLaws
 pub mod MountLaws
 pub mod UmountLaws
+pub mod WorldLaws
 pub mod NeededLaws
 pub mod RenameLaws
