@@ -120,7 +120,7 @@ pub of_lower : (w : World) → IsWhole w → (m n l : ℕ) → lower_mount (kind
 of_lower w h m n l e is = of_layer w.mounts m n l (is_layer (get w.mounts n) (kind_in (facts_of w) n) l refl e) (stands_below w h n l e) is
 
 -- a mount that isn't cut is left by nobody
-left_cut : (w : World) (n : ℕ) (t : Mount) → IsWhole w → get w.mounts n ≡ Some t → t.cut ≡ false → is_left w.leaving n ≡ false
+pub left_cut : (w : World) (n : ℕ) (t : Mount) → IsWhole w → get w.mounts n ≡ Some t → t.cut ≡ false → is_left w.leaving n ≡ false
 left_cut w n t h at cut = not_so (is_left w.leaving n) (λ left.
     let x = any_value nat_cmp nat_cmp_total (λ k. k == n) w.leaving left in
     let same : x.value ≡ n = eqb-true x.value n x.passes in

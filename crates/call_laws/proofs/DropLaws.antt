@@ -254,10 +254,10 @@ module _ (t new : Store) (alike : AreAlike t new) (well : IsWell t) (Gone : ℕ 
 
 -- ---- unlink and rmdir
 
-white_ino : {A : Type 0} {i : ℕ} → Some White ≡ Some (Ino i) → A
+pub white_ino : {A : Type 0} {i : ℕ} → Some White ≡ Some (Ino i) → A
 white_ino {i = i} e = absurd (let clash : Some White ≡ Some (Ino i) = e in cc)
 
-none_ino : {A : Type 0} {i : ℕ} → None ≡ Some (Ino i) → A
+pub none_ino : {A : Type 0} {i : ℕ} → None ≡ Some (Ino i) → A
 none_ino {i = i} e = absurd (let clash : None ≡ Some (Ino i) = e in cc)
 
 -- a name of a linked directory is dropped; what it gave has no names that give anything

@@ -31,5 +31,13 @@ pub mod BytesLaws
 pub mod WholeLaws
 pub mod DetachLaws
 pub mod DropLaws
+pub mod ClimbLaws
+pub mod MoveLaws
 pub mod GivenLaws
 pub mod NameLaws
+pub mod CopyLaws
+pub mod MountLaws
+pub mod UmountLaws
+pub mod WorldLaws
+pub mod NeededLaws
+pub mod RenameLaws

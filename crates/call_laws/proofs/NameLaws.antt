@@ -192,7 +192,7 @@ whole-set w h p d n good file upper t same =
     (file_in_store w p b.store s e rests file)
     (ap is_some (sym (kind_in_store w p b.store s e rests)) ∙ good.sound.base))
 
-eq_so : (a b : ℕ) → not (a == b) ≡ false → a ≡ b
+pub eq_so : (a b : ℕ) → not (a == b) ≡ false → a ≡ b
 eq_so a b e = eqb-true a b (is_so (a == b) e)
 
 pub whole-link : (w : World) (a b : Found) → FreeFound (facts_of w) a → FreeFound (facts_of w) b → Well w a → Well w b → IsWhole w → Keeps (LeavesSo IsWhole) (MakesNode w) (rows.link w a b)
@@ -207,7 +207,7 @@ whole-link w a b fa fb wa wb h =
 -- ---- unlink, rmdir and undelete
 
 -- what a name of the store gives is what is seen at it
-seen_at : (w : World) → IsWhole w → (d : Seen) (n : List ℕ) (o : Option Seen) → IsTarget (facts_of w) d n o → (t : Store) → get w.stores (At w d).store ≡ Some t → (j : ℕ) → entry_of t (At w d).ino n ≡ Some (Ino j)
+pub seen_at : (w : World) → IsWhole w → (d : Seen) (n : List ℕ) (o : Option Seen) → IsTarget (facts_of w) d n o → (t : Store) → get w.stores (At w d).store ≡ Some t → (j : ℕ) → entry_of t (At w d).ino n ≡ Some (Ino j)
     → (P : Type 0) → ((q : Seen) → o ≡ Some q → is_low q ≡ false → (At w q).ino ≡ j → (At w q).store ≡ (At w d).store → P) → P
 seen_at w h d n o x t e j at P k = by o refl (given_target (facts_of w) (view_of w h) d n o x)
   where
@@ -258,7 +258,7 @@ shows_lifted w (Go b) free = found_so refl
 shows_lifted w (Refuse e) free = refused
 shows_lifted w (Wants x) free = keeps-shadow w x free
 
-check_so : {N : Inner → Type 0} {P : Type 0} (b : Bool) (e : Errno) → (b ≡ false → P) → Keeps (λ _. P) N (refuse_if b e)
+pub check_so : {N : Inner → Type 0} {P : Type 0} (b : Bool) (e : Errno) → (b ≡ false → P) → Keeps (λ _. P) N (refuse_if b e)
 check_so true e h = refused
 check_so false e h = found_so (h refl)
 
@@ -321,19 +321,19 @@ whole-open_there w h c fd f p good =
     then (data_rows.copied_for (data_rows.writes f.access) w p) (keeps-copied_for (data_rows.writes f.access) w p (λ _. good.ready)) (λ _ _.
     found_so (whole-cut f.cut w p (c, fd) (record { place = p; offset = 0; mode = data_rows.mode_of f; dead = false }) (opened_at w h c fd f p good)))))
 
--- what is made is there
-new_there : (w : World) (s u : ℕ) (n : List ℕ) (node : Node) → IsWhole w → is_linked (facts_of w) s u ≡ true → is_given ((facts_of w).entry s u n) ≡ false → IsFresh u node → (o : Option Store) → get w.stores s ≡ o
-    → IsSome ((facts_of (with_store (λ t. made t u n node) w s o)).kind s (next_of o))
-new_there w s u n node h linked free fresh (Some t) e =
+-- what is made is there, and is what it was made
+pub new_kind : (w : World) (s u : ℕ) (n : List ℕ) (node : Node) → IsWhole w → is_linked (facts_of w) s u ≡ true → is_given ((facts_of w).entry s u n) ≡ false → IsFresh u node → (o : Option Store) → get w.stores s ≡ o
+    → (facts_of (with_store (λ t. made t u n node) w s o)).kind s (next_of o) ≡ Some (kind_of_node node)
+new_kind w s u n node h linked free fresh (Some t) e =
     let link : linked_by (dir_in t u) ≡ true = sym (link_is w s u t e) ∙ linked in
     let d = the_dir t u (get t.nodes u) link in
     let unused : is_given (get d.names n) ≡ false = sym (ap (λ o. is_given (entry_in n o)) d.at) ∙ ap is_given (sym (entry_is w s u n t e)) ∙ free in
     let well = well_store w h s t e in
     let made_node : get (made t u n node).nodes t.next ≡ Some node = node_new t u n node d.parent d.opaque d.names well.below d.at (link_at t u (get t.nodes u) link) unused fresh well.names in
-    ap (λ o. is_some (option_map kind_of_node (option_and_then (λ (x : Store). get x.nodes t.next) o))) (get_at-insert nat_cmp_total w.stores s (made t u n node)) ∙ ap (λ o. is_some (option_map kind_of_node o)) made_node
-new_there w s u n node h linked free fresh None e = no_way (sym (ap (λ o. linked_by (option_and_then (λ (t : Store). dir_in t u) o)) e) ∙ linked)
+    ap (λ o. option_map kind_of_node (option_and_then (λ (x : Store). get x.nodes t.next) o)) (get_at-insert nat_cmp_total w.stores s (made t u n node)) ∙ ap (option_map kind_of_node) made_node
+new_kind w s u n node h linked free fresh None e = no_way (sym (ap (λ o. linked_by (option_and_then (λ (t : Store). dir_in t u) o)) e) ∙ linked)
 
-mounts_stay : (edit : Store → Store) (w : World) (s m : ℕ) (o : Option Store) → kind_in (facts_of (with_store edit w s o)) m ≡ kind_in (facts_of w) m
+pub mounts_stay : (edit : Store → Store) (w : World) (s m : ℕ) (o : Option Store) → kind_in (facts_of (with_store edit w s o)) m ≡ kind_in (facts_of w) m
 mounts_stay edit w s m (Some t) = refl
 mounts_stay edit w s m None = refl
 
@@ -344,7 +344,7 @@ whole-open_made w h c fd f d n t =
     let new : World = edit_at w d (λ t dir. made t dir n (File [])) in
     let upper : is_low d ≡ false = dir_upper (facts_of w) d t.good.sound.files t.dir in
     let same : (m : ℕ) → kind_in (facts_of new) m ≡ kind_in (facts_of w) m = λ m. mounts_stay (λ t. made t b.ino n (File [])) w b.store m (get w.stores b.store) in
-    let there : IsSome ((facts_of new).kind b.store i) = new_there w b.store b.ino n (File []) h t.linked (given_target (facts_of w) (view_of w h) d n None t) tt (get w.stores b.store) refl in
+    let there : IsSome ((facts_of new).kind b.store i) = ap is_some (new_kind w b.store b.ino n (File []) h t.linked (given_target (facts_of w) (view_of w h) d n None t) tt (get w.stores b.store) refl) in
     then {Q = λ v. IsWhole (data_rows.open_place v c fd f (data_rows.place_in d i))} (make_at w d n (File []))
     (unless (is_full w b.store) _ (λ free.
     found_so (whole-open new (c, fd) (record { place = data_rows.place_in d i; offset = 0; mode = data_rows.mode_of f; dead = false }) (whole-make w h d n (File []) t tt free)

@@ -143,7 +143,7 @@ keeps-has_lower_place w (Mem m i) = found_so tt
 keeps-has_lower_place w (Null m p) = found_so tt
 keeps-has_lower_place w (UnionLow m u n p) = found_so tt
 
-keeps-check_lower : (w : World) (d : Seen) → Keeps Any (MakesNode w) (rows.check_lower w d)
+pub keeps-check_lower : (w : World) (d : Seen) → Keeps Any (MakesNode w) (rows.check_lower w d)
 keeps-check_lower w d = then (rows.has_lower_place w (bare d)) (keeps-has_lower_place w (bare d)) (λ lower _. check lower _)
 
 keeps-check_source : (b : Bool) (w : World) (source to : Seen) → Keeps Any (MakesNode w) (rows.check_source b w source to)

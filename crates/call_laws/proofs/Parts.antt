@@ -112,7 +112,7 @@ Well w a = IsWhole w → FoundWell (facts_of w) a
 pub ready_at : (w : World) (a : Found) (p : Seen) → Well w a → a ≡ found.At p → Ready w p
 ready_at w a p well is h = let end : FoundWell (facts_of w) (found.At p) = subst (FoundWell (facts_of w)) is (well h) in end.good.ready
 
-ready_child : (f : Facts) (d p : Seen) (n : List ℕ) → IsTarget f d n (Some p) → IsReady f p
+pub ready_child : (f : Facts) (d p : Seen) (n : List ℕ) → IsTarget f d n (Some p) → IsReady f p
 ready_child f d p n t = subst (ReadyChild f) t.child (ready-within (suc (mount_of d)) f d n)
 
 pub ready_in : (w : World) (a : Found) (d p : Seen) (n : List ℕ) → Well w a → a ≡ found.In d n (Some p) → Ready w p

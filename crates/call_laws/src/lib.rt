@@ -6,6 +6,7 @@
 mod edits;
 mod fits;
 mod kept;
+mod lasting;
 mod leaving;
 mod live;
 mod needs;
@@ -20,6 +21,10 @@ mod work;
 pub use edits::an_entry_makes_few_edits;
 pub use fits::{a_leaver_goes_on, a_row_fits};
 pub use kept::a_world_keeps_what_is_reached;
+pub use lasting::{
+    a_call_keeps_worlds_lasting, a_needed_entry_keeps_worlds_lasting,
+    legal_histories_keep_worlds_sound,
+};
 pub use leaving::an_entry_keeps_leavers;
 pub use live::{a_doom_leaves_fewer_live, an_entry_adds_no_live};
 pub use needs::a_walk_needs_what_is_free;
