@@ -394,6 +394,8 @@ pub came_back : (limits : Limits) (c : ℕ) (born : List Call) (p r : Passing) �
 came_back limits c born p r s took same =
     let was = resting c born p s in
     let known : ◌≡◌ {A = Part} (was.0, None) (calls_of c r.seen, get took.pending c) = took.known c (was.0, None) (same ∙ was.1) in
+    let low : length born ≤ length was.0 = born_within c born was.0 None p s was.1 in
+    let now : own_calls (seated c born r) ≡ was.0 = own_known c born was.0 None r (same ∙ was.1) in
     record {
       pending = took.pending;
       legal = took.legal;
@@ -402,6 +404,7 @@ came_back limits c born p r s took same =
       calls = ap calls_in (same ∙ was.1) ∙ ap (λ (q : Part). Some q.0) known;
       made_same = λ n. ap calls_in (all_same limits c p r took same n);
       mine_same = ap (λ o. drop (length born) (unwrap_or (calls_in o) [])) same;
+      since = ap length (sym (ap (λ (q : Part). q.0) known)) ∙ whole_calls (length born) was.0 low ∙ ap (λ (k : List Call). length born + length (drop (length born) k)) (sym now);
     }
 
 -- ---- a seat has the numbers that it had

@@ -101,6 +101,7 @@ pub record CameBack (limits : Limits) (old new : Seating) : Type 0 where
   pub calls : made old.caller new ≡ Some (calls_of old.caller new.seen)
   pub made_same : (n : ℕ) → made n new ≡ made n old
   pub mine_same : mine new ≡ mine old
+  pub since : length (calls_of old.caller new.seen) ≡ old.born + length (mine new)
 
 -- ---- what a seat keeps
 

@@ -2,7 +2,8 @@
 //!
 //! A `Kern` holds a world and the history that leads to it. `begin` makes a call live, and `step` takes it to the next inner
 //! entry that it needs (a shadow directory, a copy to an upper layer, the detaching of a mount, a doom) or to its end. A
-//! `Job` runs the calls of many callers, each in its caller's order; which caller has the next turn is free.
+//! `Job` runs the calls of many callers, each in its caller's order; which caller has the next turn is free. A `Vfs` is a
+//! `Kern` that threads share: each has a `Seat`, by which it makes the calls of one caller, a step in each turn.
 #![tactic(auto)]
 
 mod advancing;
