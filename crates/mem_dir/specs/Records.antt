@@ -3,7 +3,9 @@ use Rattle.std.specs.Prelude.{ℕ, ◌≡◌, ◌<◌, ◌≤◌, ◌+◌, ◌-�
 use Rattle.std.specs.List.{flat_map, AllByRecursion}
 use Rattle.std.specs.Ordering.{is_lt}
 use Rattle.std.specs.declared.cmp.Ordering.TheVariants.{Less}
+use Rattle.std.specs.FinMap as map
 use Rattle.vfs_tree.specs.Name.{name_cmp}
+use Rattle.vfs_tree.specs.Nodes.{Names}
 use Rattle.vfs_tree.specs.declared.node.NameEntry.{NameEntry}
 use Rattle.vfs_tree.specs.declared.node.NameEntry.TheVariants.{White}
 
@@ -49,3 +51,8 @@ pub record IsPlace (blocks : List (List Record)) (place at : ℕ) (name : List �
   pub in_block : at ≤ length (slice_index_or blocks place [])
   pub below : 0 < at → is_below (name_at (slice_index_or blocks place []) (at - 1)) name ≡ true
   pub not_below : at < length (slice_index_or blocks place []) → is_below (name_at (slice_index_or blocks place []) at) name ≡ false
+
+-- a map with the records put into it, one after the other
+abbrev pub with_records : Names → List Record → Names
+with_records names [] = names
+with_records names (r ∷ records) = with_records (map.insert names r.0 r.1) records

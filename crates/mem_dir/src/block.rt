@@ -1,5 +1,5 @@
 ghost use Rattle.std.specs.Prelude.{ℕ, List, None, if◌then◌else◌, ◌≡◌, ◌==◌, ◌+◌, ◌-◌, ◌<◌, ◌≤◌, ◌++◌, ◌∷◌, [], true, false, length, insert, remove, set, vec_len, vec_capacity, Some, OnOk, IfOk, IfSome, IfNone};
-ghost use Rattle.mem_dir.specs.Records.{is_below, record_at, name_at};
+ghost use Rattle.mem_dir.specs.Records.{is_below, record_at, name_at, with_records};
 ghost use Rattle.mem_dir.specs.Directory.{listed};
 ghost use Rattle.std.specs.List.{filter_map};
 ghost use Rattle.mem_dir.specs.declared.block.TheConstants.{MOST, HALF};
@@ -8,7 +8,7 @@ use finite_maps::Duplicate;
 use std::alloc::{AllocError, Global};
 use std::cmp::Ordering;
 use std::marker::Model;
-use vfs_tree::{Name, NameEntry};
+use vfs_tree::{Name, NameEntry, NameMap};
 
 /// How many records a block has at most.
 pub const MOST: usize = 64;
@@ -86,6 +86,21 @@ fn list_records(
         if is_listed(white, entry) {
             names.push(name.duplicate(alloc)?)?;
         }
+    }
+    Ok(())
+}
+
+/// Puts a copy of each record into the map. The only fault is want of memory.
+fn copy_records(
+    alloc: Global,
+    records: &[(Name, NameEntry)],
+    names: &mut NameMap<NameEntry>,
+) -> Result<(), AllocError>
+    ensures { OnOk result (names.new ≡ with_records names.old records.now) }
+{
+    for (name, entry) in records {
+        let name = name.duplicate(alloc)?;
+        names.insert(name, *entry)?;
     }
     Ok(())
 }
@@ -208,5 +223,12 @@ impl Block {
         ensures { OnOk result (names.new.items ≡ names.old.items ++ filter_map (listed white) self.now) }
     {
         list_records(alloc, &self.records, white, names)
+    }
+
+    /// Puts a copy of each record into the map. The only fault is want of memory.
+    pub fn copy_into(&self, alloc: Global, names: &mut NameMap<NameEntry>) -> Result<(), AllocError>
+        ensures { OnOk result (names.new ≡ with_records names.old self.now) }
+    {
+        copy_records(alloc, &self.records, names)
     }
 }

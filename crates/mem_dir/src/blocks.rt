@@ -2,12 +2,12 @@ ghost use Rattle.std.specs.Prelude.{◌≡◌, ◌+◌, ◌<◌, ◌≤◌, ◌+
 ghost use Rattle.std.specs.FinMap as map;
 ghost use Rattle.std.specs.List.{filter_map};
 ghost use Rattle.vfs_tree.specs.Name.{name_cmp};
-ghost use Rattle.mem_dir.specs.Records.{is_below, joined, first_at, IsRising, AreFilled, IsPlace};
+ghost use Rattle.mem_dir.specs.Records.{is_below, joined, with_records, first_at, IsRising, AreFilled, IsPlace};
 ghost use Rattle.mem_dir.specs.Directory.{listed};
 
 use crate::block::{Block, is_below};
 use std::alloc::{AllocError, Global};
-use vfs_tree::{Name, NameEntry};
+use vfs_tree::{Name, NameEntry, NameMap};
 
 /// The place of the block in which the name stands, if any does.
 pub fn block_of(blocks: &[Block], name: &Name) -> usize
@@ -127,6 +127,17 @@ pub fn list(alloc: Global, blocks: &[Block], white: bool) -> Result<Vec<Name>, A
     let mut names = Vec::new(alloc);
     for block in blocks {
         block.list_into(alloc, white, &mut names)?;
+    }
+    Ok(names)
+}
+
+/// A copy of the records as a map. The only fault is want of memory.
+pub fn copy(alloc: Global, blocks: &[Block]) -> Result<NameMap<NameEntry>, AllocError>
+    ensures { IfOk result (λ names. names ≡ with_records map.empty (joined blocks.now)) }
+{
+    let mut names = NameMap::new(alloc);
+    for block in blocks {
+        block.copy_into(alloc, &mut names)?;
     }
     Ok(names)
 }

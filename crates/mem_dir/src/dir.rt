@@ -6,7 +6,7 @@ use crate::block::Block;
 use crate::blocks;
 use std::alloc::{AllocError, Global};
 use std::marker::Model;
-use vfs_tree::{Name, NameEntry};
+use vfs_tree::{Name, NameEntry, NameMap};
 
 /// The names of a directory. Contracts see the finite map of the names, `names`, how many more names have room, `spare`,
 /// and how many records were read, `reads`.
@@ -60,6 +60,13 @@ impl Dir {
         ensures reads { self.new.reads ≡ min (self.old.reads + 1) (2 ^ 64 - 1) }
     {
         self.reads = self.reads.saturating_add(1);
+        blocks::find(&self.blocks, name)
+    }
+
+    /// What the name gives, for an edit that changes it next: the count of records read stays.
+    pub fn peek(&self, name: &Name) -> Option<NameEntry>
+        ensures { result ≡ map.get self.now.names name.now }
+    {
         blocks::find(&self.blocks, name)
     }
 
@@ -120,6 +127,15 @@ impl Dir {
         Some(entry)
     }
 
+    /// Takes all names away, without memory. The room stays.
+    pub fn clear(&mut self)
+        ensures names { self.new.names ≡ map.empty }
+        ensures spare { self.new.spare ≡ self.old.spare }
+        ensures reads { self.new.reads ≡ self.old.reads }
+    {
+        self.blocks.clear();
+    }
+
     /// The names that give an inode, in byte order. The only fault is want of memory.
     pub fn list(&self, alloc: Global) -> Result<Vec<Name>, AllocError>
         ensures { IfOk result (λ names. names.items ≡ given_names self.now.names) }
@@ -132,5 +148,12 @@ impl Dir {
         ensures { IfOk result (λ names. names.items ≡ white_names self.now.names) }
     {
         blocks::list(alloc, &self.blocks, true)
+    }
+
+    /// A copy of the names, with what each gives, as a map. The only fault is want of memory.
+    pub fn copy(&self, alloc: Global) -> Result<NameMap<NameEntry>, AllocError>
+        ensures { IfOk result (λ names. names ≡ self.now.names) }
+    {
+        blocks::copy(alloc, &self.blocks)
     }
 }

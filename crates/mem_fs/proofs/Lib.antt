@@ -1,0 +1,9 @@
+pub mod Kept
+pub mod Seen
+pub mod Rooms
+pub mod Totals
+pub mod Copies
+pub mod CountLaws
+pub mod KeptLaws
+pub mod Looks
+pub mod Calls
