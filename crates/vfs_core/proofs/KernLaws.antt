@@ -21,7 +21,7 @@ use Rattle.vfs_tree.specs.declared.walk.Step.TheVariants.{Wants}
 use Rattle.vfs_tree.specs.declared.world.World.{World}
 use Rattle.call_model.specs.Apply.{Finished, apply, settle}
 use Rattle.call_model.specs.Effects.{doomed, effect}
-use Rattle.call_model.specs.Legal.{Pending, IsLegal, MayAnswer, MayLackMemory, is_no_memory, replay, doomers_after, doomers_in}
+use Rattle.call_model.specs.Legal.{Pending, IsLegal, MayAnswer, MayLackMemory, is_no_memory, replay, calls_of, doomers_after, doomers_in}
 use Rattle.call_model.specs.Recorded.{Recorded}
 use Rattle.call_model.specs.Rows.{row}
 use Rattle.call_model.specs.declared.call.Call.{Call}
@@ -31,7 +31,7 @@ use Rattle.call_model.specs.declared.entry.Inner.{Inner}
 use Rattle.call_model.specs.declared.entry.Inner.TheVariants.{Shadow, CopyUp, Detach, Doom}
 use Rattle.call_model.specs.declared.entry.Ref.{Ref}
 use Rattle.call_model.specs.declared.reply.Reply.{Reply}
-use Rattle.call_model.proofs.HistoryLaws.{legal-begin, legal-answer, replay-answer, legal-inner, replay-inner, doomers_in-append}
+use Rattle.call_model.proofs.HistoryLaws.{calls_of-append, legal-begin, legal-answer, replay-answer, legal-inner, replay-inner, doomers_in-append}
 use Rattle.call_laws.specs.Fitting.{Fits, MayNeed}
 use Rattle.call_laws.specs.Leaving.{IsLeaver, IsLeaving}
 use Rattle.call_laws.specs.Live.{live, work_left}
@@ -45,6 +45,7 @@ use Rattle.vfs_core.specs.Coming.{Ends, Goes, NeedsDooms, doomed_by}
 use Rattle.vfs_core.specs.Kernel.{IsKept, Kernel, work}
 use Rattle.vfs_core.specs.Stepping.{dooms}
 use Rattle.vfs_core.proofs.ComingLaws.{Left, answer_leaves, leaving-dooms}
+use Rattle.vfs_core.proofs.TurnLaws.{calls_append, dooms_keep, inner_keeps}
 
 -- ---- sizes of maps
 
@@ -191,6 +192,7 @@ kept-begin limits w old new p q c call kept same room is idle caller =
       leaving = subst (λ x. (d : ℕ) → IsLeaving w d (get x d)) (sym is) (insert-each (λ d o. IsLeaving w d o) p c call (nobody_leaves (get w.leaving c) (IsLeaver (Some call)) nobody) kept.leaving);
       doomers = λ d h. kept.doomers d (sym (ap (λ x. list_any (λ y. y == d) (doomers_in [] x)) same) ∙ h);
       numbered = kept.numbered;
+      callers = λ d no. ap (calls_of d) same ∙ kept.callers d no;
     }
 
 -- more room is made
@@ -206,6 +208,7 @@ kept-room limits w old new p kept same room =
       leaving = kept.leaving;
       doomers = λ d h. kept.doomers d (sym (ap (λ x. list_any (λ y. y == d) (doomers_in [] x)) same) ∙ h);
       numbered = kept.numbered;
+      callers = λ d no. ap (calls_of d) same ∙ kept.callers d no;
     }
 
 -- what a call that goes on needs
@@ -243,6 +246,7 @@ kept-went limits w v old new p c call x kept its goes numbered =
           (λ doom e. subst (λ k. IsSome (get w.leaving k)) (sym e) (goes.leaves doom))
           (kept.doomers d)));
       numbered = numbered;
+      callers = λ d no. ap (calls_of d) goes.entered ∙ inner_keeps d old.entries c x ∙ kept.callers d no;
     }
 
 -- and there is less work left
@@ -279,6 +283,17 @@ by_doomers : (m v : World) (ds es : List ℕ) (c : ℕ) (call : Call) (r : Reply
     → MatchBool b (MayLackMemory m ds c × (v ≡ m)) (apply m c call ≡ Finished v r) → MatchBool b (MayLackMemory m es c × (v ≡ m)) (apply m c call ≡ Finished v r)
 by_doomers m v ds es c call r true lacks h = (lacks h.0, h.1)
 by_doomers m v ds es c call r false lacks h = h
+
+-- the end of a caller's call is no call of anyone who is no caller
+stranger_ended : (limits : Limits) (old mid new : Recorded) (c d : ℕ) (ats : List Ref) (call : Call) (r : Reply) → IsCaller limits c → (IsCaller limits d → ⊥)
+    → new.entries ≡ mid.entries ++ entry.Call c call r ∷ [] → mid.entries ≡ old.entries ++ dooms c ats → calls_of d old.entries ≡ [] → calls_of d new.entries ≡ []
+stranger_ended limits old mid new c d ats call r caller no pushed entered none =
+    let apart : (d == c) ≡ false = elim (eqb_tells d c) [ inl e ↦ absurd (no (subst (IsCaller limits) (sym e.1) caller)) | inr e ↦ e.0 ] in
+    let before : calls_of d mid.entries ≡ [] =
+    ap (calls_of d) entered ∙ calls_append d old.entries (dooms c ats) ∙ ap (λ (t : List Call). t ++ calls_of d (dooms c ats)) none
+    ∙ ap (calls_of d) (sym (append-nil (dooms c ats))) ∙ dooms_keep d c ats []
+    in
+    ap (calls_of d) pushed ∙ calls_of-append d c mid.entries call r ∙ ap (λ b. calls_of d mid.entries ++ cond b (call ∷ []) []) apart ∙ append-nil (calls_of d mid.entries) ∙ before
 
 -- a call ends
 pub kept-ended : (limits : Limits) (w v : World) (old mid new : Recorded) (p q : Pending) (c : ℕ) (call : Call) (r : Reply)
@@ -334,6 +349,7 @@ kept-ended limits w v old mid new p q c call r kept its ends gone pushed spare n
                 ap is_some (others d e.0) ∙ kept.doomers d was
           ];
       numbered = numbered;
+      callers = λ d no. stranger_ended limits old mid new c d ends.ats call r (kept.within c there) no pushed ends.entered (kept.callers d no);
     }
 
 -- there is room for what is live, and more
@@ -405,4 +421,5 @@ kept-new limits w h p lawful start none room idle =
       leaving = λ c. subst (λ (y : World). IsLeaving y c (get p c)) (sym start) (subst (λ o. IfSome o (λ m. IsLeaver (get p c))) (sym (get-empty nat_cmp c)) tt);
       doomers = λ c h. absurd (let clash : false ≡ true = sym (ap (λ x. list_any (λ y. y == c) (doomers_in [] x)) none) ∙ h in cc);
       numbered = subst IsNumbered (sym start) (numbered-start limits);
+      callers = λ c _. ap (calls_of c) none;
     }

@@ -8,7 +8,7 @@ use Rattle.vfs_tree.specs.Nodes.{IsNumbered}
 use Rattle.vfs_tree.specs.Start.{start_world}
 use Rattle.vfs_tree.specs.declared.limits.Limits.{Limits}
 use Rattle.vfs_tree.specs.declared.world.World.{World}
-use Rattle.call_model.specs.Legal.{Pending, IsLegal, replay, doomers_in}
+use Rattle.call_model.specs.Legal.{Pending, IsLegal, replay, doomers_in, calls_of}
 use Rattle.call_model.specs.Recorded.{Recorded}
 use Rattle.call_model.specs.declared.entry.Entry.{Entry}
 use Rattle.call_laws.specs.Live.{live, work_left}
@@ -32,7 +32,7 @@ work k = work_left k.limits (world_of k)
 -- The history is legal with the pending calls, and the world is the one that it leaves. There is room for the entry of
 -- each pending call, for the doom of each live reference, and for that of one more which each pending call may make live.
 -- A caller that is leaving a mount does so by its pending call, and only such a caller has doomed something since its last
--- call ended.
+-- call ended. Only callers have calls in the history.
 pub record IsKept (limits : Limits) (world : World) (history : Recorded) (pending : Pending) : Type 0 where
   pub lawful : IsLawful limits
   pub legal : IsLegal pending (start_world limits) history.entries
@@ -42,6 +42,7 @@ pub record IsKept (limits : Limits) (world : World) (history : Recorded) (pendin
   pub leaving : (c : ℕ) → IsLeaving world c (get pending c)
   pub doomers : (c : ℕ) → list_any (λ d. d == c) (doomers_in [] history.entries) ≡ true → IsSome (get world.leaving c)
   pub numbered : IsNumbered world
+  pub callers : (c : ℕ) → (IsCaller limits c → ⊥) → calls_of c history.entries ≡ []
 
 -- each pending call that reads bytes has room for them
 abbrev pub HaveRoom : Pending → FinMap nat_cmp ℕ → Type 0

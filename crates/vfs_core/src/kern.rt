@@ -2,7 +2,7 @@ ghost use Rattle.std.specs.Prelude.{ℕ, ◌≡◌, ◌∷◌, ◌++◌, [], tru
 ghost use Rattle.std.specs.FinMap as map;
 ghost use Rattle.vfs_tree.specs.Limits.{IsLawful, IsCaller};
 ghost use Rattle.vfs_tree.specs.Start.{start_world};
-ghost use Rattle.call_model.specs.Legal.{IsLegal, replay};
+ghost use Rattle.call_model.specs.Legal.{IsLegal, replay, calls_of};
 ghost use Rattle.plain_calls.specs.Answering.{NeedsNoMemory};
 ghost use Rattle.vfs_core.specs.Stepping.{EndsWithMemory, Steps};
 
@@ -138,6 +138,8 @@ impl Kern {
     pub fn history(&self) -> &History
         ensures history { result.now.entries ≡ self.now.history }
         ensures legal { IsLegal self.now.pending (start_world self.now.limits) self.now.history }
+        // Only callers have calls in it.
+        ensures callers { (c : ℕ) → (IsCaller self.now.limits c → ⊥) → calls_of c self.now.history ≡ [] }
     {
         self.history.history()
     }
