@@ -192,7 +192,7 @@ kept-begin limits w old new p q c call kept same room is idle caller =
       leaving = subst (λ x. (d : ℕ) → IsLeaving w d (get x d)) (sym is) (insert-each (λ d o. IsLeaving w d o) p c call (nobody_leaves (get w.leaving c) (IsLeaver (Some call)) nobody) kept.leaving);
       doomers = λ d h. kept.doomers d (sym (ap (λ x. list_any (λ y. y == d) (doomers_in [] x)) same) ∙ h);
       numbered = kept.numbered;
-      callers = λ d no. ap (calls_of d) same ∙ kept.callers d no;
+      callers = λ d stranger. ap (calls_of d) same ∙ kept.callers d stranger;
     }
 
 -- more room is made
@@ -208,7 +208,7 @@ kept-room limits w old new p kept same room =
       leaving = kept.leaving;
       doomers = λ d h. kept.doomers d (sym (ap (λ x. list_any (λ y. y == d) (doomers_in [] x)) same) ∙ h);
       numbered = kept.numbered;
-      callers = λ d no. ap (calls_of d) same ∙ kept.callers d no;
+      callers = λ d stranger. ap (calls_of d) same ∙ kept.callers d stranger;
     }
 
 -- what a call that goes on needs
@@ -246,7 +246,7 @@ kept-went limits w v old new p c call x kept its goes numbered =
           (λ doom e. subst (λ k. IsSome (get w.leaving k)) (sym e) (goes.leaves doom))
           (kept.doomers d)));
       numbered = numbered;
-      callers = λ d no. ap (calls_of d) goes.entered ∙ inner_keeps d old.entries c x ∙ kept.callers d no;
+      callers = λ d stranger. ap (calls_of d) goes.entered ∙ inner_keeps d old.entries c x ∙ kept.callers d stranger;
     }
 
 -- and there is less work left
@@ -287,8 +287,8 @@ by_doomers m v ds es c call r false lacks h = h
 -- the end of a caller's call is no call of anyone who is no caller
 stranger_ended : (limits : Limits) (old mid new : Recorded) (c d : ℕ) (ats : List Ref) (call : Call) (r : Reply) → IsCaller limits c → (IsCaller limits d → ⊥)
     → new.entries ≡ mid.entries ++ entry.Call c call r ∷ [] → mid.entries ≡ old.entries ++ dooms c ats → calls_of d old.entries ≡ [] → calls_of d new.entries ≡ []
-stranger_ended limits old mid new c d ats call r caller no pushed entered none =
-    let apart : (d == c) ≡ false = elim (eqb_tells d c) [ inl e ↦ absurd (no (subst (IsCaller limits) (sym e.1) caller)) | inr e ↦ e.0 ] in
+stranger_ended limits old mid new c d ats call r caller stranger pushed entered none =
+    let apart : (d == c) ≡ false = elim (eqb_tells d c) [ inl e ↦ absurd (stranger (subst (IsCaller limits) (sym e.1) caller)) | inr e ↦ e.0 ] in
     let before : calls_of d mid.entries ≡ [] =
     ap (calls_of d) entered ∙ calls_append d old.entries (dooms c ats) ∙ ap (λ (t : List Call). t ++ calls_of d (dooms c ats)) none
     ∙ ap (calls_of d) (sym (append-nil (dooms c ats))) ∙ dooms_keep d c ats []
@@ -349,7 +349,7 @@ kept-ended limits w v old mid new p q c call r kept its ends gone pushed spare n
                 ap is_some (others d e.0) ∙ kept.doomers d was
           ];
       numbered = numbered;
-      callers = λ d no. stranger_ended limits old mid new c d ends.ats call r (kept.within c there) no pushed ends.entered (kept.callers d no);
+      callers = λ d stranger. stranger_ended limits old mid new c d ends.ats call r (kept.within c there) stranger pushed ends.entered (kept.callers d stranger);
     }
 
 -- there is room for what is live, and more
