@@ -1,1 +1,3 @@
+pub mod Racks
 pub mod Recycled
+pub mod TwoRows

@@ -1,9 +1,9 @@
 -- A claim and a fill, one after the other.
-use Rattle.std.proofs.Common.{ℕ, ◌≡◌, ◌≢◌, ◌<◌, ◌-◌, ◌^◌, sym, ap, ◌∙◌, subst, inl, inr, List, [], length, Option, IsSome}
+use Rattle.std.proofs.Common.{◌≡◌, ◌≢◌, ◌<◌, ◌-◌, ◌^◌, sym, ◌∙◌, subst, inl, inr, List, [], Option, IsSome}
 use Rattle.op_vector.specs.declared.data.Vid.{Vid}
 use Rattle.vnode_rec.specs.declared.slot.Slot.{Slot}
 use Rattle.vnode_rec.specs.Holders.{occurs}
-use Rattle.vnode_rec.specs.Vnodes.{Table, slot_at, AreFilled, EachSlot, HasRoom, IsCurrent, WasGiven, Grows}
+use Rattle.vnode_rec.specs.Vnodes.{Table, AreFilled, EachSlot, HasRoom, Grows}
 use Rattle.vnode_rec.specs.Effects.{HasNoSlot}
 
 module _ {X : Type 0} where

@@ -3,5 +3,9 @@
 #![tactic(auto)]
 
 mod recycle;
+#[cfg(test)]
+mod tests;
+#[cfg(test)]
+mod vectors;
 
 pub use recycle::new_vnode;

@@ -1,5 +1,4 @@
 use Rattle.std.proofs.Common.{ℕ, ◌≡◌, ◌∙◌, true, false, subst, sym, refl, List, Option, Some}
-use Rattle.std.specs.Option.{option_copied}
 use Rattle.vnode_rec.specs.Identity.{identity}
 use Rattle.vnode_rec.specs.Vnodes.{HasNone, identity_at}
 use Rattle.vnode_rec.proofs.Growth.{grows_same}
