@@ -1,5 +1,5 @@
 -- A caller's current directory is set to a sound place.
-use Rattle.std.proofs.Common.{◌≡◌, ℕ, Bool, true, false, not, List, refl}
+use Rattle.std.proofs.Common.{◌≡◌, ℕ, true, false, not, List}
 use Rattle.vfs_tree.specs.Facts.{Facts}
 use Rattle.vfs_tree.specs.Layers.{is_dir}
 use Rattle.vfs_tree.specs.Place.{Seen}
@@ -23,15 +23,12 @@ use Rattle.call_laws.proofs.PlaceLaws.{well_at}
 use Rattle.call_laws.proofs.SoundLaws.{sound-cwd}
 use Rattle.call_laws.proofs.SoundRows.{Leaves, sound-by}
 use Rattle.call_laws.proofs.WalkLaws.{IsEnd, FoundWell}
+use Rattle.call_laws.proofs.SoundParts.{is_so}
 
 -- a directory at which a walk ends
 pub record IsEndDir (f : Facts) (p : Seen) : Type 0 where
   pub end : IsEnd f p
   pub dir : is_dir f p ≡ true
-
-is_so : (b : Bool) → not b ≡ false → b ≡ true
-is_so true e = refl
-is_so false e = cc
 
 pub well-place_at : (w : World) (a : Found) → FreeFound (facts_of w) a → FoundWell (facts_of w) a → Keeps (IsEnd (facts_of w)) (MakesNode w) (place_at w a)
 well-place_at w (found.At p) free g = found_so g

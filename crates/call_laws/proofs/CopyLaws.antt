@@ -1,6 +1,6 @@
 -- A copy of a file in the upper layer of a union keeps sound worlds lasting.
 use Rattle.std.proofs.Common.{◌≡◌, ℕ, true, false, cond, ◌&&◌, ◌==◌, List, [], refl, ap, sym, ◌∙◌, subst, eqb-true}
-use Rattle.std.specs.Prelude.{Option, Some, None, IsSome, IfSome, is_some, option_map}
+use Rattle.std.specs.Prelude.{Option, Some, None, IsSome, IfSome, is_some}
 use Rattle.std.specs.Str.{bytes_eq}
 use Rattle.std.specs.FinMap.{get}
 use Rattle.finite_maps.proofs.EntryLaws.{pair_total}
@@ -24,7 +24,7 @@ use Rattle.call_laws.specs.Needing.{IsFree}
 use Rattle.call_laws.proofs.FlagLaws.{get_each}
 use Rattle.call_laws.proofs.MadeLaws.{IsFresh}
 use Rattle.call_laws.proofs.NameLaws.{new_kind, mounts_stay}
-use Rattle.call_laws.proofs.SoundParts.{first_of, second_of, both_of}
+use Rattle.call_laws.proofs.SoundParts.{first_of, second_of, both_of, mapped}
 use Rattle.call_laws.proofs.Whole.{IsWhole}
 use Rattle.call_laws.proofs.WholeLaws.{HasRoom, whole-made}
 
@@ -88,10 +88,6 @@ module _ (g : Facts) (m u : ℕ) (n : List ℕ) (q : Seen) (i : ℕ) (there : Is
   turned_over (UnionUp l j) h = tt
   turned_over (UnionLow l v a p) h = by_place (IsOver g) l v a p (λ e. tt) (h.0 ∙ ap Some (sym (turned_mount p)), turned_over p h.1)
 
-mapped : {X : Type 0} (f : X → X) (P : X → Type 0) → ((x : X) → P x → P (f x)) → (o : Option X) → IfSome o P → IfSome (option_map f o) P
-mapped f P h (Some x) p = h x p
-mapped f P h None p = tt
-
 -- each open file that stands on the file turns to the copy
 whole-turned : (v : World) (m u : ℕ) (n : List ℕ) (q : Seen) (i : ℕ) → IsWhole v → IsSome ((facts_of v).kind (store_by (kind_in (facts_of v) m)) i) → is_dir_kind ((facts_of v).kind (store_by (kind_in (facts_of v) m)) i) ≡ false
     → IsWhole (turned_opens (UnionLow m u n q) (UnionUp m i) v)
@@ -103,7 +99,7 @@ whole-turned v m u n q i h there file =
       sound = record {
         view = h.sound.view;
         opens = λ k. subst (λ x. IfSome x (λ o. o.dead ≡ false → IsSoundPlace g o.place)) (sym (get_each pair_total (turned_open from to) v.opens k))
-            (mapped (turned_open from to) (λ o. o.dead ≡ false → IsSoundPlace g o.place) (λ o s e. turned_sound g m u n q i there file o.place (s e)) (get v.opens k) (h.sound.opens k));
+            (mapped (turned_open from to) (λ o. o.dead ≡ false → IsSoundPlace g o.place) (λ o. o.dead ≡ false → IsSoundPlace g o.place) (λ o s e. turned_sound g m u n q i there file o.place (s e)) (get v.opens k) (h.sound.opens k));
         cwds = h.sound.cwds;
         apart = h.sound.apart;
       };
@@ -116,7 +112,7 @@ whole-turned v m u n q i h there file =
         uncut = h.lasts.uncut;
         overs = h.lasts.overs;
         opens = λ k. subst (λ x. IfSome x (λ o. o.dead ≡ false → IsOver g o.place)) (sym (get_each pair_total (turned_open from to) v.opens k))
-            (mapped (turned_open from to) (λ o. o.dead ≡ false → IsOver g o.place) (λ o s e. turned_over g m u n q i there file o.place (s e)) (get v.opens k) (h.lasts.opens k));
+            (mapped (turned_open from to) (λ o. o.dead ≡ false → IsOver g o.place) (λ o. o.dead ≡ false → IsOver g o.place) (λ o s e. turned_over g m u n q i there file o.place (s e)) (get v.opens k) (h.lasts.opens k));
         cwds = h.lasts.cwds;
         left = h.lasts.left;
         counted = record { mounts = h.lasts.counted.mounts; stores = h.lasts.counted.stores; most = h.lasts.counted.most; inodes = h.lasts.counted.inodes };

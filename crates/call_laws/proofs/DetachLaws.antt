@@ -1,5 +1,5 @@
 -- A mount is detached, and what a sound world rests on is kept.
-use Rattle.std.proofs.Common.{◌≡◌, ℕ, zero, suc, ◌≤◌, ◌<◌, Bool, true, false, not, ◌&&◌, ◌||◌, ◌==◌, List, [], ◌∷◌, refl, ap, sym, ◌∙◌, subst, arith, nat_cmp, eqb-true, eq-eqb}
+use Rattle.std.proofs.Common.{◌≡◌, ℕ, zero, suc, ◌≤◌, ◌<◌, Bool, true, false, not, ◌||◌, ◌==◌, List, [], ◌∷◌, refl, ap, sym, ◌∙◌, subst, arith, nat_cmp, eqb-true, eq-eqb}
 use Rattle.std.specs.Prelude.{Option, Some, None, IsSome, IfSome, is_some, option_map}
 use Rattle.std.specs.List.{list_any}
 use Rattle.std.specs.Cmp.{nat_cmp_total}
@@ -22,9 +22,9 @@ use Rattle.call_laws.proofs.FlagLaws.{get_each}
 use Rattle.call_laws.proofs.NamedLaws.{no_way, any_value, value_any}
 use Rattle.call_laws.proofs.PlaceLaws.{below_head}
 use Rattle.call_laws.proofs.SoundLaws.{sound-detach}
-use Rattle.call_laws.proofs.SoundParts.{if_each, each_place, Stays}
+use Rattle.call_laws.proofs.SoundParts.{if_each, each_place, Stays, both_of, or_first, or_second, or_none, not_so, if_both, number_or, kind_or}
 use Rattle.call_laws.proofs.Whole.{IsWhole}
-use Rattle.call_laws.proofs.WholeLaws.{over_stays, dir_stays, if_both}
+use Rattle.call_laws.proofs.WholeLaws.{over_stays, dir_stays}
 
 -- ---- lists
 
@@ -41,18 +41,6 @@ any_more p q f (x ∷ xs) h = by (p x) (q x) (f x) (any_more p q f xs) h
 or_more : (a b c : Bool) → (b ≡ true → c ≡ true) → (a || b) ≡ true → (a || c) ≡ true
 or_more true b c f h = refl
 or_more false b c f h = f h
-
-not_so : (a : Bool) → (a ≡ true → ⊥) → a ≡ false
-not_so true h = absurd (h refl)
-not_so false h = refl
-
-pub or_first : (a b : Bool) → a ≡ true → (a || b) ≡ true
-or_first true b e = refl
-or_first false b e = no_way e
-
-pub or_second : (a b : Bool) → b ≡ true → (a || b) ≡ true
-or_second true b e = refl
-or_second false b e = e
 
 -- ---- standing on
 
@@ -74,14 +62,6 @@ of_layer mounts m n l layer less h =
     or_second (n == m) (stands_on mounts n m)
     (layer (λ x. (x == m) || stands_within n mounts x m) (or_more (l == m) (stands_on mounts l m) (stands_within n mounts l m) (more_steps (suc l) n (omega (arith, less)) mounts l m) h))
 
-abbrev kind_or : Option MountKind → MountKind
-kind_or (Some k) = k
-kind_or None = kind.Mem
-
-abbrev number_of : Option ℕ → ℕ
-number_of (Some n) = n
-number_of None = 0
-
 layers_so : (o : Option Mount) (k : MountKind) → option_map (λ (t : Mount). t.kind) o ≡ Some k → (test : ℕ → Bool) → list_any test (layers k) ≡ true → list_any test (layers_at o) ≡ true
 layers_so (Some t) k is test h = ap (λ x. list_any test (layers x)) (ap kind_or is) ∙ h
 layers_so None k is test h = absurd (let clash : None ≡ Some k = is in cc)
@@ -98,8 +78,8 @@ upper_layer o s u lower is test h = layers_so o (kind.Union s u lower) is test (
 -- the mount of the lower layer
 pub is_layer : (o : Option Mount) (k : Option MountKind) (l : ℕ) → option_map (λ (t : Mount). t.kind) o ≡ k → lower_mount k ≡ Some l → IsLayer o l
 is_layer o (Some kind.Mem) l is e = absurd (let clash : None ≡ Some l = e in cc)
-is_layer o (Some (kind.Null layer)) l is e = subst (IsLayer o) (ap number_of e) (null_layer o layer is)
-is_layer o (Some (kind.Union s u lower)) l is e = subst (IsLayer o) (ap number_of e) (lower_layer o s u lower is)
+is_layer o (Some (kind.Null layer)) l is e = subst (IsLayer o) (ap number_or e) (null_layer o layer is)
+is_layer o (Some (kind.Union s u lower)) l is e = subst (IsLayer o) (ap number_or e) (lower_layer o s u lower is)
 is_layer o None l is e = absurd (let clash : None ≡ Some l = e in cc)
 
 -- the mount of a lower layer has a smaller number
@@ -108,8 +88,8 @@ lower_less m (Some t) l h e = by t.kind h.1 e
   where
     by : (k : MountKind) → EachLayer (IsBelow m) k → lower_mount (Some k) ≡ Some l → l < m
     by kind.Mem h e = absurd (let clash : None ≡ Some l = e in cc)
-    by (kind.Null layer) h e = subst (λ x. x < m) (ap number_of e) (below_head m layer h)
-    by (kind.Union s u lower) h e = subst (λ x. x < m) (ap number_of e) (below_head m lower h.1)
+    by (kind.Null layer) h e = subst (λ x. x < m) (ap number_or e) (below_head m layer h)
+    by (kind.Union s u lower) h e = subst (λ x. x < m) (ap number_or e) (below_head m lower h.1)
 lower_less m None l h e = absurd (let clash : None ≡ Some l = e in cc)
 
 pub stands_below : (w : World) → IsWhole w → (n l : ℕ) → lower_mount (kind_in (facts_of w) n) ≡ Some l → l < n
@@ -181,35 +161,22 @@ module _ (w : World) (c m : ℕ) (h : IsWhole w) (none : get w.leaving c ≡ Non
     place_uncut lower over.1 (apart_layer n (mount_of lower) (lower_layer (get w.mounts n) s u lower is) (below_head n lower below.1) apart) cut.1,
   )
 
-  and_true : (a b : Bool) → a ≡ true → b ≡ true → (a && b) ≡ true
-  and_true true true p q = refl
-  and_true true false p q = q
-  and_true false b p q = p
-
   -- no mount that isn't left covers a place of the mount, or of one that stands on it
   on_apart : (n : ℕ) (t : Mount) → get w.mounts n ≡ Some t → t.number ≡ n → t.cut ≡ false → (p : Seen) → t.on ≡ Some p → is_of w.mounts m (mount_of p) ≡ false
   on_apart n t at number cut p on = not_so (is_of w.mounts m (mount_of p)) (λ is.
       let lies : is_on_in (is_of w.mounts m) t.on ≡ true = ap (is_on_in (is_of w.mounts m)) on ∙ is in
       let stays : not (is_left w.leaving t.number) ≡ true = ap (λ x. not (is_left w.leaving x)) number ∙ ap not (left_cut w n t h at cut) in
-      no_way (sym free ∙ value_any nat_cmp (covers_in w.leaving (is_of w.mounts m)) w.mounts n t at (and_true (is_on_in (is_of w.mounts m) t.on) (not (is_left w.leaving t.number)) lies stays)))
+      no_way (sym free ∙ value_any nat_cmp (covers_in w.leaving (is_of w.mounts m)) w.mounts n t at (both_of (is_on_in (is_of w.mounts m) t.on) (not (is_left w.leaving t.number)) lies stays)))
 
   on_uncut : (n : ℕ) (t : Mount) → get w.mounts n ≡ Some t → t.number ≡ n → t.cut ≡ false → (o : Option Seen) → t.on ≡ o → IfSome o (IsOver f) → IfSome o (IsUncut f) → IfSome o (IsUncut g)
   on_uncut n t at number cut (Some p) on over uncut = place_uncut p over (on_apart n t at number cut p on) uncut
   on_uncut n t at number cut None on over uncut = tt
 
-  alive_before : (a b : Bool) → (a || b) ≡ false → a ≡ false
-  alive_before true b e = cc
-  alive_before false b e = refl
-
-  apart_then : (a b : Bool) → (a || b) ≡ false → b ≡ false
-  apart_then true b e = cc
-  apart_then false b e = e
-
   mount_uncut : (n : ℕ) (o : Option Mount) → get w.mounts n ≡ o → IfSome o (λ t. t.number ≡ n) → IfSome o (EachPlace (IsBelow n)) → IfSome o (λ t. t.cut ≡ false → EachPlace (IsOver f) t)
       → IfSome o (λ t. t.cut ≡ false → EachPlace (IsUncut f) t) → IfSome (option_map (cut_with w.mounts m) o) (λ t. t.cut ≡ false → EachPlace (IsUncut g) t)
   mount_uncut n (Some t) at number below over uncut = λ cut.
-      let alive : t.cut ≡ false = alive_before t.cut (is_of w.mounts m t.number) cut in
-      let apart : is_of w.mounts m n ≡ false = sym (ap (is_of w.mounts m) number) ∙ apart_then t.cut (is_of w.mounts m t.number) cut in (
+      let alive : t.cut ≡ false = (or_none t.cut (is_of w.mounts m t.number) cut).0 in
+      let apart : is_of w.mounts m n ≡ false = sym (ap (is_of w.mounts m) number) ∙ (or_none t.cut (is_of w.mounts m t.number) cut).1 in (
         on_uncut n t at number alive t.on refl (over alive).0 (uncut alive).0,
         layers_uncut n t.kind (ap (option_map (λ (t : Mount). t.kind)) at) below.1 (over alive).1 apart (uncut alive).1,
       )
@@ -246,7 +213,7 @@ module _ (w : World) (c m : ℕ) (h : IsWhole w) (none : get w.leaving c ≡ Non
   same_number n None x = tt
 
   same_overs : (o : Option Mount) → IfSome o (λ t. t.cut ≡ false → EachPlace (IsOver f) t) → IfSome (option_map (cut_with w.mounts m) o) (λ t. t.cut ≡ false → EachPlace (IsOver g) t)
-  same_overs (Some t) x = λ cut. each_place (IsOver f) (IsOver g) (over_stays f g stays.kinds) t (x (alive_before t.cut (is_of w.mounts m t.number) cut))
+  same_overs (Some t) x = λ cut. each_place (IsOver f) (IsOver g) (over_stays f g stays.kinds) t (x (or_none t.cut (is_of w.mounts m t.number) cut).0)
   same_overs None x = tt
 
   still_left : (n : ℕ) → (n < w.next_mount) × IfSome (get w.mounts n) (λ t. t.cut ≡ true) → (n < v.next_mount) × IfSome (get v.mounts n) (λ t. t.cut ≡ true)

@@ -1,11 +1,9 @@
 -- Names of a store are set, dropped and moved: its names stay sound where no directory is moved.
-use Rattle.std.specs.declared.cmp.Ordering.{Ordering}
-use Rattle.std.specs.declared.cmp.Ordering.TheVariants.{Less, Equal, Greater}
 use Rattle.std.proofs.Common.{◌≡◌, ℕ, zero, suc, ◌≤◌, ◌<◌, ◌⊎◌, inl, inr, Bool, true, false, cond, ◌==◌, ◌||◌, List, refl, ap, sym, ◌∙◌, subst}
 use Rattle.std.specs.Prelude.{Option, Some, None, IsSome, IfSome, is_some, option_map, option_and_then}
 use Rattle.std.specs.Cmp.{nat_cmp_total}
 use Rattle.std.specs.Cmp.Lexicographic.{nat_list_cmp_total}
-use Rattle.std.specs.Ordering.{eq_by_cmp, is_eq}
+use Rattle.std.specs.Ordering.{eq_by_cmp}
 use Rattle.std.specs.FinMap.{get, insert, remove, empty, get-empty, get-remove}
 use Rattle.std.proofs.lemmas.Map.Lookups.{exact_unsigned, exact_bytes}
 use Rattle.finite_maps.proofs.EntryLaws.{by_key, get_at-insert}
@@ -26,18 +24,14 @@ use Rattle.vfs_tree.specs.declared.view.DirFacts.{DirFacts}
 use Rattle.call_laws.proofs.MadeLaws.{kind_at, none_some, same_parent, linked_is, is_linked, linked_dir, no_dir, linked_way, linked_root, linked_named, inode_of, name_or}
 use Rattle.call_laws.proofs.NamedLaws.{no_way, named_from, named_to, name_is}
 use Rattle.call_laws.proofs.WholeLaws.{IsWell, IsKept}
+use Rattle.call_laws.proofs.WeightLaws.{equal}
 
 -- ---- one node is changed
-
-tied : (r : Ordering) → is_eq r ≡ true → r ≡ Equal
-tied Less e = cc
-tied Equal e = refl
-tied Greater e = cc
 
 -- what stands at a name after another was taken away, by cases
 without_key : (m : Names) (k q : List ℕ) (P : Option NameEntry → Type 0) → (q ≡ k → P None) → P (get m q) → P (get (remove m k) q)
 without_key m k q P here there = subst P (sym (get-remove nat_list_cmp_total m k q))
-    (elim (eq_by_cmp name_cmp q k) as (λ b. eq_by_cmp name_cmp q k ≡ b → P (cond b None (get m q))) [ true ↦ λ e. here (exact_bytes q k (tied _ e)) | false ↦ λ _. there ] refl)
+    (elim (eq_by_cmp name_cmp q k) as (λ b. eq_by_cmp name_cmp q k ≡ b → P (cond b None (get m q))) [ true ↦ λ e. here (exact_bytes q k (equal _ e)) | false ↦ λ _. there ] refl)
 
 pub at_node : (f : Node → Node) (t : Store) (i d : ℕ) (P : Option Node → Type 0) → ((node : Node) → d ≡ i → get t.nodes d ≡ Some node → P (Some (f node))) → P (get t.nodes d) → P (get (with_node_at f t i).nodes d)
 at_node f t i d P here there = by (get t.nodes i) refl

@@ -18,7 +18,7 @@ use Rattle.vfs_tree.specs.declared.walk.Child.TheVariants as child
 use Rattle.call_laws.specs.Lasting.{lower_mount, IsOver, IsUncut}
 use Rattle.call_laws.specs.Needing.{IsFree}
 use Rattle.call_laws.proofs.NamedLaws.{no_way}
-use Rattle.call_laws.proofs.SoundParts.{first_of, second_of, both_of}
+use Rattle.call_laws.proofs.SoundParts.{first_of, second_of, both_of, kind_or, number_or}
 
 -- ---- what the lower layer alone has
 
@@ -143,10 +143,6 @@ pub record IsGoodView (f : Facts) : Type 0 where
   pub rises : (p : Seen) (m : ℕ) → f.covering p ≡ Some m → mount_of p < m
   pub few : (m : ℕ) → IsSome (f.mount m) → m < 4294967295
 
-abbrev kind_or : Option MountKind → MountKind
-kind_or (Some k) = k
-kind_or None = kind.Mem
-
 layers_of : (f : Facts) (o : Option Mount) → IfSome o (λ t. t.cut ≡ false → EachPlace (IsGood f) t) → cut_by o ≡ false
     → (k : MountKind) → option_map (λ (t : Mount). t.kind) o ≡ Some k → EachLayer (IsGood f) k
 layers_of f (Some t) h cut k is = subst (EachLayer (IsGood f)) (ap kind_or is) (h cut).1
@@ -160,10 +156,6 @@ covered_by f None h cut p is = absurd (let clash : None ≡ Some p = is in cc)
 pub there_kind : (o : Option Mount) → IsSome o → IsSome (option_map (λ (t : Mount). t.kind) o)
 there_kind (Some t) h = refl
 there_kind None h = no_way h
-
-abbrev pub number_or : Option ℕ → ℕ
-number_or (Some n) = n
-number_or None = 0
 
 pub union_lower : (k : Option MountKind) → is_union k ≡ true → lower_mount k ≡ Some (number_or (lower_mount k))
 union_lower (Some kind.Mem) h = no_way h

@@ -33,9 +33,9 @@ use Rattle.vfs_tree.specs.declared.world.World.{World}
 use Rattle.call_model.specs.DataRows.{place_in}
 use Rattle.call_laws.specs.Lasting.{lower_mount, IsOver}
 use Rattle.call_laws.proofs.DetachLaws.{lower_less}
-use Rattle.call_laws.proofs.FoundLaws.{IsGood, IsGoodView, number_or, under_null}
+use Rattle.call_laws.proofs.FoundLaws.{IsGood, IsGoodView, under_null}
 use Rattle.call_laws.proofs.NamedLaws.{no_way}
-use Rattle.call_laws.proofs.SoundParts.{first_of, second_of, both_of}
+use Rattle.call_laws.proofs.SoundParts.{first_of, second_of, both_of, number_or}
 use Rattle.call_laws.proofs.WalkLaws.{stands_at, IsTarget}
 
 -- whether a place is of a file that a union has in its lower layer alone

@@ -1,26 +1,20 @@
 -- What is kept of a world.
-use Rattle.std.specs.declared.cmp.Ordering.{Ordering}
-use Rattle.std.specs.declared.cmp.Ordering.TheVariants.{Less, Equal, Greater}
 use Rattle.std.proofs.Common.{◌≡◌, ℕ, Bool, true, false, cond, List, [], ◌∷◌, map, refl, ap, sym, ◌∙◌, nat_cmp}
 use Rattle.std.specs.Prelude.{Option, Some, None, option_map}
 use Rattle.std.specs.Cmp.{nat_cmp_total}
-use Rattle.std.specs.Ordering.{eq_by_cmp, is_eq}
+use Rattle.std.specs.Ordering.{eq_by_cmp}
 use Rattle.std.specs.FinMap.{FinMap, get, contains_key, retain_keys, entries, find, get-entries, get-from_entries, get-retain_keys, nat_cmp-IsAntisymmetric}
 use Rattle.vfs_tree.specs.declared.node.Store.{Store}
 use Rattle.vfs_tree.specs.declared.world.World.{World}
 use Rattle.call_model.specs.Kept.{is_kept, kept_store, kept}
-
-tied : (r : Ordering) → is_eq r ≡ true → r ≡ Equal
-tied Less e = cc
-tied Equal e = refl
-tied Greater e = cc
+use Rattle.call_laws.proofs.WeightLaws.{equal}
 
 -- each value changed by its key
 find_at : {X : Type 0} (f : ℕ → X → X) (es : List (ℕ × X)) (q : ℕ) → find nat_cmp q (map (λ e. (e.0, f e.0 e.1)) es) ≡ option_map (f q) (find nat_cmp q es)
 find_at f [] q = refl
 find_at f (e ∷ es) q =
     elim (eq_by_cmp nat_cmp q e.0) as (λ b. eq_by_cmp nat_cmp q e.0 ≡ b → cond b (Some (f e.0 e.1)) (find nat_cmp q (map (λ d. (d.0, f d.0 d.1)) es)) ≡ option_map (f q) (cond b (Some e.1) (find nat_cmp q es))) [
-      | true ↦ λ is. ap (λ k. Some (f k e.1)) (sym (nat_cmp-IsAntisymmetric q e.0 (tied (nat_cmp q e.0) is)))
+      | true ↦ λ is. ap (λ k. Some (f k e.1)) (sym (nat_cmp-IsAntisymmetric q e.0 (equal (nat_cmp q e.0) is)))
       | false ↦ λ _. find_at f es q
     ] refl
 

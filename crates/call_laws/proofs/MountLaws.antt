@@ -36,10 +36,10 @@ use Rattle.call_laws.proofs.Parts.{Keeps, MakesNode, Well, found_so, refused, th
 use Rattle.call_laws.proofs.PlaceLaws.{lasting-start}
 use Rattle.call_laws.proofs.SoundLaws.{sound-start, start_node}
 use Rattle.call_laws.proofs.SoundMade.{NamesOf}
-use Rattle.call_laws.proofs.SoundParts.{first_of, second_of, if_each, each_layer, each_place, Stays, stays_place, stays_dir}
+use Rattle.call_laws.proofs.SoundParts.{first_of, second_of, if_each, each_layer, each_place, Stays, stays_place, stays_dir, if_both, mem_there, null_there, union_there, mount_there, kind_or}
 use Rattle.call_laws.proofs.SoundRows.{LeavesSo}
 use Rattle.call_laws.proofs.Whole.{IsWhole}
-use Rattle.call_laws.proofs.WholeLaws.{over_stays, uncut_stays, dir_stays, if_both}
+use Rattle.call_laws.proofs.WholeLaws.{over_stays, uncut_stays, dir_stays}
 
 -- ---- places that are the same
 
@@ -87,26 +87,6 @@ no_cover w p n bare on =
 
 -- ---- numbers
 
-pub mem_some : (o : Option MountKind) → is_mem o ≡ true → IsSome o
-mem_some (Some k) h = refl
-mem_some None h = no_way h
-
-pub null_some : (o : Option MountKind) → is_null o ≡ true → IsSome o
-null_some (Some k) h = refl
-null_some None h = no_way h
-
-pub union_some : (o : Option MountKind) → is_union o ≡ true → IsSome o
-union_some (Some k) h = refl
-union_some None h = no_way h
-
-pub mount_some : (o : Option Mount) → IsSome (option_map (λ (t : Mount). t.kind) o) → IsSome o
-mount_some (Some t) h = refl
-mount_some None h = no_way h
-
-abbrev kind_or : Option MountKind → MountKind
-kind_or (Some k) = k
-kind_or None = kind.Mem
-
 -- a directory that is good, and that a mount may be on or have as a layer
 pub record IsLayerDir (f : Facts) (p : Seen) : Type 0 where
   pub good : IsGood f p
@@ -145,7 +125,7 @@ module _ (w : World) (h : IsWhole w) (s : FinMap nat_cmp Store) (grown : AreGrow
   at_mount n P here there = by_key nat_cmp_total exact_unsigned w.mounts m t n P here there
 
   kinds : (n : ℕ) (x : MountKind) → kind_in f n ≡ Some x → kind_in g n ≡ Some x
-  kinds n x is = at_mount n (λ o. option_map (λ (t : Mount). t.kind) o ≡ Some x) (λ e. fresh n e (mount_some (get w.mounts n) (ap is_some is))) is
+  kinds n x is = at_mount n (λ o. option_map (λ (t : Mount). t.kind) o ≡ Some x) (λ e. fresh n e (mount_there (get w.mounts n) (ap is_some is))) is
 
   cuts : (n : ℕ) → is_cut f n ≡ false → is_cut g n ≡ false
   cuts n is = at_mount n (λ o. cut_by o ≡ false) (λ _. refl) is
@@ -156,13 +136,13 @@ module _ (w : World) (h : IsWhole w) (s : FinMap nat_cmp Store) (grown : AreGrow
   -- ---- what is named is there
 
   number : (n : ℕ) → IsSome (kind_in f n) → n < m
-  number n there = h.lasts.counted.mounts n (mount_some (get w.mounts n) there)
+  number n there = h.lasts.counted.mounts n (mount_there (get w.mounts n) there)
 
   below : (p : Seen) → names_mounts f p ≡ true → IsBelow m p
-  below (Mem n i) x = number n (mem_some (kind_in f n) x)
-  below (Null n p) x = (number n (null_some (kind_in f n) (first_of (is_null (kind_in f n)) (names_mounts f p) x)), below p (second_of (is_null (kind_in f n)) (names_mounts f p) x))
-  below (UnionUp n i) x = number n (union_some (kind_in f n) x)
-  below (UnionLow n u a p) x = (number n (union_some (kind_in f n) (first_of (is_union (kind_in f n)) (names_mounts f p) x)), below p (second_of (is_union (kind_in f n)) (names_mounts f p) x))
+  below (Mem n i) x = number n (mem_there (kind_in f n) x)
+  below (Null n p) x = (number n (null_there (kind_in f n) (first_of (is_null (kind_in f n)) (names_mounts f p) x)), below p (second_of (is_null (kind_in f n)) (names_mounts f p) x))
+  below (UnionUp n i) x = number n (union_there (kind_in f n) x)
+  below (UnionLow n u a p) x = (number n (union_there (kind_in f n) (first_of (is_union (kind_in f n)) (names_mounts f p) x)), below p (second_of (is_union (kind_in f n)) (names_mounts f p) x))
 
   layer_dir : (p : Seen) → IsLayerDir f p → IsSoundDir g p
   layer_dir p x = stays_dir f g stays p (record { place = x.good.sound; dir = x.dir })

@@ -40,19 +40,20 @@ use Rattle.call_model.specs.declared.target.Target.{Target}
 use Rattle.call_laws.proofs.ChdirLaws.{well-dir_at}
 use Rattle.call_laws.proofs.DataParts.{keeps-copied_for, keeps-free_from}
 use Rattle.call_laws.proofs.DropLaws.{NoDir, removed_kept, linked_kept, undeleted_kept}
-use Rattle.call_laws.proofs.FoundLaws.{IsGood, IsGoodView, good-child, GoodChild}
+use Rattle.call_laws.proofs.FoundLaws.{IsGood, IsGoodView}
 use Rattle.call_laws.proofs.GivenLaws.{is_low, dir_upper, GivenAt, given_target, same_store, in_over, in_sound, shows_none}
 use Rattle.call_laws.proofs.MadeLaws.{IsFresh, kind_at, node_new, inode_of, none_some, no_dir}
 use Rattle.call_laws.proofs.NameParts.{keeps-check_text}
 use Rattle.call_laws.proofs.NamedLaws.{no_way}
 use Rattle.call_laws.proofs.NeedLaws.{Free, FreeFound, free-has_visible}
 use Rattle.call_laws.proofs.Parts.{Keeps, MakesNode, Well, Ready, ready_at, found_so, refused, needed, weaker, then, unless, ready_bare, keeps-shadow, keeps-found_at, keeps-found_in, keeps-there_at}
-use Rattle.call_laws.proofs.PlaceLaws.{good_view}
+use Rattle.call_laws.proofs.PlaceLaws.{good_view, good_child_at}
 use Rattle.call_laws.proofs.SoundMade.{dir_at as the_dir, link_at}
 use Rattle.call_laws.proofs.SoundRows.{LeavesSo}
 use Rattle.call_laws.proofs.WalkLaws.{stands_at, IsTarget, IsEnd, FoundWell}
 use Rattle.call_laws.proofs.Whole.{IsWhole}
 use Rattle.call_laws.proofs.WholeLaws.{HasRoom, well_store, whole-store, whole-made, whole-bytes, whole-open, whole-cwd}
+use Rattle.call_laws.proofs.SoundParts.{is_so}
 
 -- ---- what stores have, told by what walks read
 
@@ -66,10 +67,6 @@ pub link_is : (w : World) (s i : ℕ) (t : Store) → get w.stores s ≡ Some t 
 link_is w s i t e = ap (λ o. linked_by (option_and_then (λ (t : Store). dir_in t i) o)) e
 
 -- ---- parts of rows
-
-pub is_so : (b : Bool) → not b ≡ false → b ≡ true
-is_so true e = refl
-is_so false e = cc
 
 none_so : (o : Option Seen) → is_some o ≡ false → o ≡ None
 none_so (Some p) e = no_way (sym e)
@@ -135,9 +132,7 @@ linked_in w d n o t x e = sym (link_is w (At w d).store (At w d).ino t e) ∙ x.
 
 -- the child of a directory is a good place
 pub good_in : (w : World) → IsWhole w → (d p : Seen) (n : List ℕ) → IsTarget (facts_of w) d n (Some p) → IsGood (facts_of w) p
-good_in w h d p n t =
-    let c : GoodChild (facts_of w) (view_of w h) (mount_of d) (stands_at (Some p)) = subst (GoodChild (facts_of w) (view_of w h) (mount_of d)) t.child (good-child (facts_of w) (view_of w h) d n t.good) in
-    c.0
+good_in w h d p n t = good_child_at w h.sound h.lasts d p n t
 
 -- a node is made at a name at which nothing stands
 whole-make : (w : World) → IsWhole w → (d : Seen) (n : List ℕ) (node : Node) → IsTarget (facts_of w) d n None → IsFresh (At w d).ino node → is_full w (At w d).store ≡ false → IsWhole (edit_at w d (λ t dir. made t dir n node))

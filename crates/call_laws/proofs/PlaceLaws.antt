@@ -1,5 +1,5 @@
 -- What a caller's path finds, links followed, is sound; and the world at the start lasts.
-use Rattle.std.proofs.Common.{◌≡◌, ℕ, ◌≤◌, ◌<◌, Bool, true, false, cond, not, ◌&&◌, ◌||◌, ◌==◌, List, [], ◌∷◌, map, refl, ap, sym, ◌∙◌, subst, arith, nat_cmp, eqb-true}
+use Rattle.std.proofs.Common.{◌≡◌, ℕ, ◌≤◌, ◌<◌, Bool, true, false, cond, not, ◌&&◌, ◌==◌, List, [], ◌∷◌, map, refl, ap, sym, ◌∙◌, subst, arith, nat_cmp, eqb-true}
 use Rattle.std.specs.Prelude.{Option, Some, None, IsSome, IfSome, is_some, option_map, option_and_then}
 use Rattle.std.specs.List.{AllByRecursion, find as find_in}
 use Rattle.std.specs.Str.{bytes_eq}
@@ -33,11 +33,11 @@ use Rattle.call_model.specs.Rows.{Way, way, found_at}
 use Rattle.call_model.specs.declared.entry.Ref.{Ref}
 use Rattle.call_laws.specs.Lasting.{lower_mount, IsOver, IsUncut, AreCounted, IsLasting}
 use Rattle.call_laws.proofs.FlagLaws.{get_each}
-use Rattle.call_laws.proofs.FoundLaws.{IsGood, IsGoodView, number_or, head_uncut, good_layers, dir_ready}
-use Rattle.call_laws.proofs.WalkLaws.{StepsTo, steps_unless, IsEnd, FoundWell, well_find}
+use Rattle.call_laws.proofs.FoundLaws.{IsGood, IsGoodView, head_uncut, good_layers, dir_ready, GoodChild, good-child}
+use Rattle.call_laws.proofs.WalkLaws.{StepsTo, steps_unless, stands_at, IsTarget, IsEnd, FoundWell, well_find}
 use Rattle.call_laws.proofs.SoundLaws.{only, start_node, each_root}
 use Rattle.call_laws.proofs.NamedLaws.{no_way}
-use Rattle.call_laws.proofs.SoundParts.{first_of, if_each}
+use Rattle.call_laws.proofs.SoundParts.{first_of, if_each, or_none, mapped, number_or}
 use Rattle.call_laws.proofs.WeightLaws.{all_given}
 
 -- ---- what covers a place
@@ -169,6 +169,31 @@ module _ (w : World) (h : IsSound w) (lasts : IsLasting w) where
   pub uncut_at : (c : ℕ) (text : List ℕ) (p : Seen) → found_at w c (way leaf.Follow text) ≡ found.At p → IsUncut (facts_of w) p
   uncut_at c text p is = (end_at (found_at w c (way leaf.Follow text)) p (well_at c (way leaf.Follow text)) is).good.uncut
 
+  -- nothing covers it
+  pub bare_at : (c : ℕ) (text : List ℕ) (p : Seen) → found_at w c (way leaf.Follow text) ≡ found.At p → (facts_of w).covering p ≡ None
+  bare_at c text p is = (end_at (found_at w c (way leaf.Follow text)) p (well_at c (way leaf.Follow text)) is).bare
+
+  target_at : (a : Found) (d : Seen) (n : List ℕ) (o : Option Seen) → FoundWell (facts_of w) a → a ≡ found.In d n o → IsTarget (facts_of w) d n o
+  target_at a d n o g is = subst (FoundWell (facts_of w)) is g
+
+  -- a name is in a directory at a sound place, and what stands at it is at one
+  pub dir_at : (c : ℕ) (text : List ℕ) (d : Seen) (n : List ℕ) (o : Option Seen) → found_at w c (way leaf.Parent text) ≡ found.In d n o → IsSoundDir (facts_of w) d
+  dir_at c text d n o is =
+      let t = target_at (found_at w c (way leaf.Parent text)) d n o (well_at c (way leaf.Parent text)) is in
+      record { place = t.good.sound; dir = t.dir }
+
+  pub good_child_at : (d p : Seen) (n : List ℕ) → IsTarget (facts_of w) d n (Some p) → IsGood (facts_of w) p
+  good_child_at d p n t =
+      let c : GoodChild (facts_of w) good_view (mount_of d) (stands_at (Some p)) = subst (GoodChild (facts_of w) good_view (mount_of d)) t.child (good-child (facts_of w) good_view d n t.good) in
+      c.0
+
+  pub child_at : (c : ℕ) (text : List ℕ) (d p : Seen) (n : List ℕ) → found_at w c (way leaf.Parent text) ≡ found.In d n (Some p) → IsSoundPlace (facts_of w) p
+  child_at c text d p n is = (good_child_at d p n (target_at (found_at w c (way leaf.Parent text)) d n (Some p) (well_at c (way leaf.Parent text)) is)).sound
+
+  -- a mount that is found is there
+  pub mount_at : (c : ℕ) (text : List ℕ) (m : ℕ) → found_at w c (way leaf.Mount text) ≡ found.Mount m → IsSome (get w.mounts m)
+  mount_at c text m is = subst (FoundWell (facts_of w)) is (well_at c (way leaf.Mount text))
+
 -- ---- the start
 
 module _ (limits : Limits) where
@@ -214,14 +239,6 @@ module _ (limits : Limits) where
 
 -- ---- dooms
 
-mapped : {X : Type 0} (g : X → X) (P Q : X → Type 0) → ((x : X) → P x → Q (g x)) → (o : Option X) → IfSome o P → IfSome (option_map g o) Q
-mapped g P Q h (Some x) p = h x p
-mapped g P Q h None p = tt
-
-alive_before : (a b : Bool) → (a || b) ≡ false → a ≡ false
-alive_before true b e = cc
-alive_before false b e = refl
-
 lasting_doomed_place : (w : World) (o : Option Seen) → IsLasting w → IsLasting (doomed_place w o)
 lasting_doomed_place w (Some p) h = record {
   numbered = h.numbered;
@@ -232,10 +249,10 @@ lasting_doomed_place w (Some p) h = record {
   uncut = h.uncut;
   overs = h.overs;
   opens = λ k. subst (λ x. IfSome x (λ o. o.dead ≡ false → IsOver (facts_of w) o.place)) (sym (get_each pair_total (doomed_open p) w.opens k))
-      (mapped (doomed_open p) (λ o. o.dead ≡ false → IsOver (facts_of w) o.place) (λ o. o.dead ≡ false → IsOver (facts_of w) o.place) (λ o s e. s (alive_before o.dead _ e)) (get w.opens k) (h.opens k));
+      (mapped (doomed_open p) (λ o. o.dead ≡ false → IsOver (facts_of w) o.place) (λ o. o.dead ≡ false → IsOver (facts_of w) o.place) (λ o s e. s (or_none o.dead _ e).0) (get w.opens k) (h.opens k));
   cwds = λ c. subst (λ x. IfSome x (λ d. d.dead ≡ false → IsOver (facts_of w) d.place × (is_dir (facts_of w) d.place ≡ true))) (sym (get_each nat_cmp_total (doomed_cwd p) w.cwds c))
       (mapped (doomed_cwd p) (λ d. d.dead ≡ false → IsOver (facts_of w) d.place × (is_dir (facts_of w) d.place ≡ true)) (λ d. d.dead ≡ false → IsOver (facts_of w) d.place × (is_dir (facts_of w) d.place ≡ true))
-      (λ d s e. s (alive_before d.dead _ e)) (get w.cwds c) (h.cwds c));
+      (λ d s e. s (or_none d.dead _ e).0) (get w.cwds c) (h.cwds c));
   left = h.left;
   counted = record { mounts = h.counted.mounts; stores = h.counted.stores; most = h.counted.most; inodes = h.counted.inodes };
 }

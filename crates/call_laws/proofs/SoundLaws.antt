@@ -33,7 +33,7 @@ use Rattle.call_model.specs.Refs.{place_of}
 use Rattle.call_model.specs.declared.entry.Ref.{Ref}
 use Rattle.vfs_tree.specs.Sound.{LeadsUp, AreSoundNames, is_mem, IsSoundPlace, IsSoundDir, EachPlace, IsBelow, IsSoundView, covers_by, is_on_place, IsSound}
 use Rattle.call_laws.proofs.FlagLaws.{get_each}
-use Rattle.call_laws.proofs.SoundParts.{first_of, second_of, both_of, if_each, each_place, Stays, stays_place, stays_dir}
+use Rattle.call_laws.proofs.SoundParts.{first_of, second_of, both_of, if_each, each_place, Stays, stays_place, stays_dir, or_none, not_then, mapped}
 
 -- ---- the world at the start
 
@@ -108,24 +108,16 @@ module _ (limits : Limits) where
 
 -- ---- what is changed alike
 
-mapped : {X : Type 0} (g : X → X) (P Q : X → Type 0) → ((x : X) → P x → Q (g x)) → (o : Option X) → IfSome o P → IfSome (option_map g o) Q
-mapped g P Q h (Some x) p = h x p
-mapped g P Q h None p = tt
-
 each_some : {K X : Type 0} {R : K → K → Ordering} → IsTotalOrder R → (g : X → X) (m : FinMap R X) (k : K) (P Q : X → Type 0) → ((x : X) → P x → Q (g x)) → IfSome (get m k) P → IfSome (get (each g m) k) Q
 each_some o g m k P Q h p = subst (λ r. IfSome r Q) (sym (get_each o g m k)) (mapped g P Q h (get m k) p)
-
-left_alive : (a b : Bool) → (a || b) ≡ false → a ≡ false
-left_alive true b e = cc
-left_alive false b e = refl
 
 -- ---- dooms
 
 sound_doomed_place : (w : World) (o : Option Seen) → IsSound w → IsSound (doomed_place w o)
 sound_doomed_place w (Some p) h = record {
   view = h.view;
-  opens = λ k. each_some pair_total (doomed_open p) w.opens k (λ o. o.dead ≡ false → IsSoundPlace (facts_of w) o.place) (λ o. o.dead ≡ false → IsSoundPlace (facts_of w) o.place) (λ o s e. s (left_alive o.dead _ e)) (h.opens k);
-  cwds = λ c. each_some nat_cmp_total (doomed_cwd p) w.cwds c (λ d. d.dead ≡ false → IsSoundPlace (facts_of w) d.place) (λ d. d.dead ≡ false → IsSoundPlace (facts_of w) d.place) (λ d s e. s (left_alive d.dead _ e)) (h.cwds c);
+  opens = λ k. each_some pair_total (doomed_open p) w.opens k (λ o. o.dead ≡ false → IsSoundPlace (facts_of w) o.place) (λ o. o.dead ≡ false → IsSoundPlace (facts_of w) o.place) (λ o s e. s (or_none o.dead _ e).0) (h.opens k);
+  cwds = λ c. each_some nat_cmp_total (doomed_cwd p) w.cwds c (λ d. d.dead ≡ false → IsSoundPlace (facts_of w) d.place) (λ d. d.dead ≡ false → IsSoundPlace (facts_of w) d.place) (λ d s e. s (or_none d.dead _ e).0) (h.cwds c);
   apart = h.apart;
 }
 sound_doomed_place w None h = h
@@ -159,11 +151,6 @@ left_still leaving c m n none h =
     ap (λ es. list_any (λ x. x == n) (map (λ e. e.1) es)) (entries-insert nat_cmp_total leaving c m)
     ∙ any_put nat_cmp (λ x. x == n) c m (entries leaving) (sym (get-entries leaving c) ∙ none) h
 
-not_then : (a b : Bool) → (a ≡ true → b ≡ true) → not b ≡ true → not a ≡ true
-not_then true true g e = e
-not_then true false g e = absurd (let clash : false ≡ true = g refl in cc)
-not_then false b g e = refl
-
 -- what covers a place after a mount is detached did before
 covered_before : (leaving : Leaving) (c m : ℕ) (cut : Mount → Mount) → ((t : Mount) → (cut t).on ≡ t.on) → ((t : Mount) → (cut t).number ≡ t.number) → get leaving c ≡ None → (p : Seen) (o : Option Mount)
     → covers_by (insert leaving c m) p (option_map cut o) ≡ true → covers_by leaving p o ≡ true
@@ -192,7 +179,7 @@ module _ (w : World) (c m : ℕ) (none : get w.leaving c ≡ None) (h : IsSound 
   detached_view = record {
     names = h.view.names;
     places = λ n. each_some nat_cmp_total (cut_with w.mounts m) w.mounts n (λ t. t.cut ≡ false → EachPlace (IsSoundDir (facts_of w)) t) (λ t. t.cut ≡ false → EachPlace (IsSoundDir (facts_of new)) t)
-        (λ t s e. each_place (IsSoundDir (facts_of w)) (IsSoundDir (facts_of new)) (stays_dir (facts_of w) (facts_of new) stays) t (s (left_alive t.cut _ e))) (h.view.places n);
+        (λ t s e. each_place (IsSoundDir (facts_of w)) (IsSoundDir (facts_of new)) (stays_dir (facts_of w) (facts_of new) stays) t (s (or_none t.cut _ e).0)) (h.view.places n);
     root = same_kinds 0 ∙ h.view.root;
     smaller = λ n. each_some nat_cmp_total (cut_with w.mounts m) w.mounts n (EachPlace (IsBelow n)) (EachPlace (IsBelow n)) (λ t s. s) (h.view.smaller n);
   }

@@ -1,6 +1,6 @@
 -- What is sound stays sound where what it rests on stays.
-use Rattle.std.proofs.Common.{◌≡◌, ℕ, Bool, true, false, ◌&&◌, refl, ap, sym, ◌∙◌}
-use Rattle.std.specs.Prelude.{Option, Some, None, IsSome, IfSome, is_some}
+use Rattle.std.proofs.Common.{◌≡◌, ℕ, Bool, true, false, not, ◌&&◌, ◌||◌, refl, ap, sym, ◌∙◌}
+use Rattle.std.specs.Prelude.{Option, Some, None, IsSome, IfSome, is_some, option_map}
 use Rattle.vfs_tree.specs.Facts.{Facts}
 use Rattle.vfs_tree.specs.Layers.{kind_in, base, kind_of, is_dir_kind, store_by}
 use Rattle.vfs_tree.specs.Place.{Seen, Mem, Null, UnionUp, UnionLow}
@@ -24,13 +24,73 @@ second_of false b e = cc
 pub both_of : (a b : Bool) → a ≡ true → b ≡ true → (a && b) ≡ true
 both_of a b p q = ap (λ x. x && b) p ∙ q
 
+pub or_first : (a b : Bool) → a ≡ true → (a || b) ≡ true
+or_first a b p = ap (λ x. x || b) p
+
+pub or_second : (a b : Bool) → b ≡ true → (a || b) ≡ true
+or_second true b p = refl
+or_second false b p = p
+
+-- neither of the two
+pub or_none : (a b : Bool) → (a || b) ≡ false → (a ≡ false) × (b ≡ false)
+or_none true b e = absurd (let clash : true ≡ false = e in cc)
+or_none false b e = (refl, e)
+
+pub not_so : (a : Bool) → (a ≡ true → ⊥) → a ≡ false
+not_so true h = absurd (h refl)
+not_so false h = refl
+
+pub is_so : (b : Bool) → not b ≡ false → b ≡ true
+is_so true e = refl
+is_so false e = cc
+
+-- what follows from a thing that isn't so isn't so
+pub not_then : (a b : Bool) → (a ≡ true → b ≡ true) → not b ≡ true → not a ≡ true
+not_then true true g e = e
+not_then true false g e = absurd (let clash : false ≡ true = g refl in cc)
+not_then false b g e = refl
+
 -- ---- options
 
 pub if_each : {A : Type 0} (P Q : A → Type 0) → ((a : A) → P a → Q a) → (o : Option A) → IfSome o P → IfSome o Q
 if_each P Q f (Some a) h = f a h
 if_each P Q f None h = tt
 
+pub if_both : {A : Type 0} (P Q R : A → Type 0) → ((a : A) → P a → Q a → R a) → (o : Option A) → IfSome o P → IfSome o Q → IfSome o R
+if_both P Q R f (Some a) p q = f a p q
+if_both P Q R f None p q = tt
+
+-- what is changed
+pub mapped : {A : Type 0} (g : A → A) (P Q : A → Type 0) → ((a : A) → P a → Q (g a)) → (o : Option A) → IfSome o P → IfSome (option_map g o) Q
+mapped g P Q h (Some a) p = h a p
+mapped g P Q h None p = tt
+
+abbrev pub number_or : Option ℕ → ℕ
+number_or (Some n) = n
+number_or None = 0
+
 -- ---- mounts
+
+abbrev pub kind_or : Option MountKind → MountKind
+kind_or (Some k) = k
+kind_or None = kind.Mem
+
+-- a mount of a kind is there
+pub mem_there : (o : Option MountKind) → is_mem o ≡ true → IsSome o
+mem_there (Some k) h = refl
+mem_there None h = absurd (let clash : false ≡ true = h in cc)
+
+pub null_there : (o : Option MountKind) → is_null o ≡ true → IsSome o
+null_there (Some k) h = refl
+null_there None h = absurd (let clash : false ≡ true = h in cc)
+
+pub union_there : (o : Option MountKind) → is_union o ≡ true → IsSome o
+union_there (Some k) h = refl
+union_there None h = absurd (let clash : false ≡ true = h in cc)
+
+pub mount_there : (o : Option Mount) → IsSome (option_map (λ (t : Mount). t.kind) o) → IsSome o
+mount_there (Some t) h = refl
+mount_there None h = absurd (let clash : false ≡ true = h in cc)
 
 pub each_layer : (P Q : Seen → Type 0) → ((p : Seen) → P p → Q p) → (k : MountKind) → EachLayer P k → EachLayer Q k
 each_layer P Q f kind.Mem h = tt

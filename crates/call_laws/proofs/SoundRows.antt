@@ -42,6 +42,7 @@ use Rattle.call_laws.proofs.Whole.{IsWhole}
 use Rattle.call_laws.proofs.Parts.{Well, ready_at, Keeps, Any, MakesNode, found_so, needed, weaker, then, unless, keeps-lifted, keeps-place_at, keeps-found_at, keeps-check_way}
 use Rattle.call_laws.proofs.SoundLaws.{sound-open, sound-closed, sound-cwd}
 use Rattle.call_laws.proofs.WholeLaws.{whole-bytes, whole-open, whole-closed, whole-cwd}
+use Rattle.call_laws.proofs.SoundParts.{is_so}
 
 -- whatever is needed
 abbrev pub AnyNeed : Inner → Type 0
@@ -65,10 +66,6 @@ pub record IsSteady (P : World → Type 0) : Type 0 where
   pub entered : (w : World) (c : ℕ) (k : ℕ × ℕ) (o : Open) → P w → get w.opens k ≡ Some o → o.dead ≡ false → is_dir (facts_of w) o.place ≡ true → P (record w { cwds = insert w.cwds c (record { place = o.place; dead = false }) })
   -- the contents of a file change
   pub written : (w : World) (s i : ℕ) (g : List ℕ → List ℕ) → P w → P (with_store (λ t. with_node_at (with_bytes g) t i) w s (get w.stores s))
-
-is_so : (b : Bool) → not b ≡ false → b ≡ true
-is_so true e = refl
-is_so false e = cc
 
 -- the place of an open file that isn't dead
 open_place : (w : World) (k : ℕ × ℕ) (o : Open) → IsSound w → get w.opens k ≡ Some o → o.dead ≡ false → IsSoundPlace (facts_of w) o.place

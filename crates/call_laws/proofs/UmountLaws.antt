@@ -1,7 +1,5 @@
 -- Mounts that go keep sound worlds lasting.
 use Rattle.std.proofs.Common.{◌≡◌, ℕ, ◌<◌, Bool, true, false, cond, not, ◌&&◌, ◌||◌, ◌==◌, List, [], ◌∷◌, ◌++◌, map, refl, ap, sym, ◌∙◌, subst, nat_cmp, eqb-true, eq-eqb}
-use Rattle.std.specs.declared.cmp.Ordering.{Ordering}
-use Rattle.std.specs.declared.cmp.Ordering.TheVariants.{Less, Equal, Greater}
 use Rattle.std.specs.Prelude.{Option, Some, None, IsSome, IfSome, is_some, option_map}
 use Rattle.std.specs.List.{list_any, filter, fold}
 use Rattle.std.specs.Cmp.{nat_cmp_total}
@@ -29,15 +27,14 @@ use Rattle.call_model.specs.MountRows as rows
 use Rattle.call_model.specs.Refs.{Reference, open_reference, cwd_reference, open_references, references, first_case, first_of_two, stands_first, first, first_in}
 use Rattle.call_model.specs.declared.entry.Ref.{Ref}
 use Rattle.call_laws.specs.Lasting.{lower_mount, IsOver, IsUncut, IsLasting}
-use Rattle.call_laws.proofs.DetachLaws.{IsLayer, null_layer, lower_layer, upper_layer, is_layer, of_lower, left_cut, or_first, or_second}
+use Rattle.call_laws.proofs.DetachLaws.{IsLayer, null_layer, lower_layer, upper_layer, is_layer, of_lower, left_cut}
 use Rattle.call_laws.proofs.NamedLaws.{no_way, any_value, value_any}
 use Rattle.call_laws.proofs.NeedLaws.{FreeFound}
 use Rattle.call_laws.proofs.Parts.{Keeps, MakesNode, found_so, needed, weaker, then, unless, keeps-mount_at}
-use Rattle.call_laws.proofs.MountLaws.{mem_some, null_some, union_some, mount_some}
-use Rattle.call_laws.proofs.SoundParts.{first_of, second_of, both_of, if_each, each_place}
+use Rattle.call_laws.proofs.SoundParts.{first_of, second_of, both_of, if_each, each_place, or_first, or_second, or_none, not_so, not_then, if_both, number_or, mem_there, null_there, union_there, mount_there}
 use Rattle.call_laws.proofs.SoundRows.{LeavesSo, AnyNeed}
 use Rattle.call_laws.proofs.Whole.{IsWhole}
-use Rattle.call_laws.proofs.WholeLaws.{if_both}
+use Rattle.call_laws.proofs.WeightLaws.{equal}
 
 -- no mount that a place names is this one
 abbrev pub NamesNot : ℕ → Seen → Type 0
@@ -92,11 +89,6 @@ module _ (f g : Facts) (m : ℕ) (same : (n : ℕ) → (n ≡ m → ⊥) → kin
 
 -- ---- a mount is removed
 
-tied : (r : Ordering) → is_eq r ≡ true → r ≡ Equal
-tied Less e = cc
-tied Equal e = refl
-tied Greater e = cc
-
 and_places : (P Q R : Seen → Type 0) → ((p : Seen) → P p → Q p → R p) → (t : Mount) → EachPlace P t → EachPlace Q t → EachPlace R t
 and_places P Q R f t p q = (if_both P Q R f t.on p.0 q.0, by t.kind p.1 q.1)
   where
@@ -130,7 +122,7 @@ module _ (w : World) (h : IsWhole w) (m : ℕ) (leaving : FinMap nat_cmp ℕ) (o
   -- the other mounts are as before
   other_mount : (n : ℕ) → (n ≡ m → ⊥) → get v.mounts n ≡ get w.mounts n
   other_mount n ne = get-remove nat_cmp_total w.mounts m n ∙ (elim (eq_by_cmp nat_cmp n m) as (λ b. eq_by_cmp nat_cmp n m ≡ b → cond b None (get w.mounts n) ≡ get w.mounts n) [
-    | true ↦ λ e. absurd (ne (exact_unsigned n m (tied _ e)))
+    | true ↦ λ e. absurd (ne (exact_unsigned n m (equal _ e)))
     | false ↦ λ _. refl
   ] refl)
 
@@ -149,15 +141,10 @@ module _ (w : World) (h : IsWhole w) (m : ℕ) (leaving : FinMap nat_cmp ℕ) (o
   on_before : (p : Seen) (n : ℕ) → is_on_place v p n ≡ true → is_on_place w p n ≡ true
   on_before p n = at_mount n (λ o. covers_by leaving p o ≡ true → is_on_place w p n ≡ true) (λ x. no_way x) (λ ne. was n ne (get w.mounts n) (h.lasts.mounts n))
     where
-      not_left : (a b : Bool) → (a ≡ true → b ≡ true) → not b ≡ true → not a ≡ true
-      not_left true true k e = e
-      not_left true false k e = absurd (let clash : false ≡ true = k refl in cc)
-      not_left false b k e = refl
-
       was : (n : ℕ) → (n ≡ m → ⊥) → (o : Option Mount) → IfSome o (λ t. t.number ≡ n) → covers_by leaving p o ≡ true → covers_by w.leaving p o ≡ true
       was n ne (Some t) is x =
           both_of (is_on t.on p) (not (is_left w.leaving t.number)) (first_of (is_on t.on p) (not (is_left leaving t.number)) x)
-          (not_left (is_left w.leaving t.number) (is_left leaving t.number) (still t.number (λ e. ne (sym is ∙ e))) (second_of (is_on t.on p) (not (is_left leaving t.number)) x))
+          (not_then (is_left w.leaving t.number) (is_left leaving t.number) (still t.number (λ e. ne (sym is ∙ e))) (second_of (is_on t.on p) (not (is_left leaving t.number)) x))
       was n ne None is x = x
 
   sound-gone : IsSound v
@@ -211,19 +198,6 @@ module _ (w : World) (h : IsWhole w) (m : ℕ) (leaving : FinMap nat_cmp ℕ) (o
 
 -- ---- unmount(2): nothing refers to the mount
 
-not_so : (a : Bool) → (a ≡ true → ⊥) → a ≡ false
-not_so true h = absurd (h refl)
-not_so false h = refl
-
-or_none : (a b : Bool) → (a || b) ≡ false → (a ≡ false) × (b ≡ false)
-or_none true b e = no_way (sym e)
-or_none false b e = (refl, e)
-
-and_both : (a b : Bool) → a ≡ true → b ≡ true → (a && b) ≡ true
-and_both true true p q = refl
-and_both true false p q = q
-and_both false b p q = p
-
 module _ (w : World) (h : IsWhole w) (m : ℕ) (free : has_references w m ≡ false) where
   unopened : is_open_in w m ≡ false
   unopened = (or_none (is_open_in w m) (is_cwd_in w m || is_mounted_in w m) free).0
@@ -252,18 +226,18 @@ module _ (w : World) (h : IsWhole w) (m : ℕ) (free : has_references w m ≡ fa
 
   open_head : (k : ℕ × ℕ) (o : Open) → get w.opens k ≡ Some o → o.dead ≡ false → mount_of o.place ≡ m → ⊥
   open_head k o at alive is =
-      no_way (sym unopened ∙ value_any pair_cmp (λ o. not o.dead && (mount_of o.place == m)) w.opens k o at (and_both (not o.dead) (mount_of o.place == m) (ap not alive) (eq-eqb (mount_of o.place) m is)))
+      no_way (sym unopened ∙ value_any pair_cmp (λ o. not o.dead && (mount_of o.place == m)) w.opens k o at (both_of (not o.dead) (mount_of o.place == m) (ap not alive) (eq-eqb (mount_of o.place) m is)))
 
   cwd_head : (c : ℕ) (d : Cwd) → get w.cwds c ≡ Some d → d.dead ≡ false → mount_of d.place ≡ m → ⊥
   cwd_head c d at alive is =
-      no_way (sym unentered ∙ value_any nat_cmp (λ d. not d.dead && (mount_of d.place == m)) w.cwds c d at (and_both (not d.dead) (mount_of d.place == m) (ap not alive) (eq-eqb (mount_of d.place) m is)))
+      no_way (sym unentered ∙ value_any nat_cmp (λ d. not d.dead && (mount_of d.place == m)) w.cwds c d at (both_of (not d.dead) (mount_of d.place == m) (ap not alive) (eq-eqb (mount_of d.place) m is)))
 
   on_head : (n : ℕ) (t : Mount) → get w.mounts n ≡ Some t → t.number ≡ n → t.cut ≡ false → (p : Seen) → t.on ≡ Some p → mount_of p ≡ m → ⊥
   on_head n t at number cut p on is =
       let stays : not (is_left w.leaving t.number) ≡ true = ap (λ x. not (is_left w.leaving x)) number ∙ ap not (left_cut w n t h at cut) in
       let lies : is_on_in (λ n. n == m) t.on ≡ true = ap (is_on_in (λ n. n == m)) on ∙ eq-eqb (mount_of p) m is in
       no_way (sym unmounted ∙ value_any nat_cmp (λ t. covers_in w.leaving (λ n. n == m) t || list_any (λ l. l == m) (layers t.kind)) w.mounts n t at
-      (or_first (covers_in w.leaving (λ n. n == m) t) (list_any (λ l. l == m) (layers t.kind)) (and_both (is_on_in (λ n. n == m) t.on) (not (is_left w.leaving t.number)) lies stays)))
+      (or_first (covers_in w.leaving (λ n. n == m) t) (list_any (λ l. l == m) (layers t.kind)) (both_of (is_on_in (λ n. n == m) t.on) (not (is_left w.leaving t.number)) lies stays)))
 
   opens_not : (k : ℕ × ℕ) (o : Option Open) → get w.opens k ≡ o → IfSome o (λ o. o.dead ≡ false → IsOver (facts_of w) o.place) → IfSome o (λ o. o.dead ≡ false → NamesNot m o.place)
   opens_not k (Some o) at over = λ alive. names_not o.place (over alive) (open_head k o at alive)
@@ -362,11 +336,11 @@ module _ (w : World) (h : IsWhole w) (c m : ℕ) (leaves : get w.leaving c ≡ S
 
   open_apart : (k : ℕ × ℕ) (o : Open) → get w.opens k ≡ Some o → o.dead ≡ false → among o.place ≡ false
   open_apart k o at alive = not_so (among o.place) (λ is.
-      no_way (sym no_opens ∙ value_any pair_cmp (λ (o : Open). not o.dead && among o.place) w.opens k o at (and_both (not o.dead) (among o.place) (ap not alive) is)))
+      no_way (sym no_opens ∙ value_any pair_cmp (λ (o : Open). not o.dead && among o.place) w.opens k o at (both_of (not o.dead) (among o.place) (ap not alive) is)))
 
   cwd_apart : (c : ℕ) (d : Cwd) → get w.cwds c ≡ Some d → d.dead ≡ false → among d.place ≡ false
   cwd_apart c d at alive = not_so (among d.place) (λ is.
-      no_way (sym no_cwds ∙ value_any nat_cmp (λ (d : Cwd). not d.dead && among d.place) w.cwds c d at (and_both (not d.dead) (among d.place) (ap not alive) is)))
+      no_way (sym no_cwds ∙ value_any nat_cmp (λ (d : Cwd). not d.dead && among d.place) w.cwds c d at (both_of (not d.dead) (among d.place) (ap not alive) is)))
 
   head_apart : (n : ℕ) → is_of w.mounts m n ≡ false → n ≡ m → ⊥
   head_apart n apart is = no_way (sym apart ∙ or_first (n == m) (stands_on w.mounts n m) (eq-eqb n m is))
@@ -400,17 +374,17 @@ module _ (w : World) (h : IsWhole w) (c m : ℕ) (leaves : get w.leaving c ≡ S
   other_than n uncut there = cut_or_gone n (get w.mounts m) refl left_so.1 uncut there
 
   first_other : m ≡ 0 → ⊥
-  first_other e = other_than 0 h.lasts.first (mount_some (get w.mounts 0) (ap is_some h.sound.view.root)) (sym e)
+  first_other e = other_than 0 h.lasts.first (mount_there (get w.mounts 0) (ap is_some h.sound.view.root)) (sym e)
 
   named_not : (p : Seen) → names_mounts (facts_of w) p ≡ true → IsUncut (facts_of w) p → NamesNot m p
-  named_not (Mem n i) x cut = other_than n cut (mount_some (get w.mounts n) (mem_some (kind_in (facts_of w) n) x))
+  named_not (Mem n i) x cut = other_than n cut (mount_there (get w.mounts n) (mem_there (kind_in (facts_of w) n) x))
   named_not (Null n p) x cut = (
-    other_than n cut.0 (mount_some (get w.mounts n) (null_some (kind_in (facts_of w) n) (first_of (is_null (kind_in (facts_of w) n)) (names_mounts (facts_of w) p) x))),
+    other_than n cut.0 (mount_there (get w.mounts n) (null_there (kind_in (facts_of w) n) (first_of (is_null (kind_in (facts_of w) n)) (names_mounts (facts_of w) p) x))),
     named_not p (second_of (is_null (kind_in (facts_of w) n)) (names_mounts (facts_of w) p) x) cut.1,
   )
-  named_not (UnionUp n i) x cut = other_than n cut (mount_some (get w.mounts n) (union_some (kind_in (facts_of w) n) x))
+  named_not (UnionUp n i) x cut = other_than n cut (mount_there (get w.mounts n) (union_there (kind_in (facts_of w) n) x))
   named_not (UnionLow n u a p) x cut = (
-    other_than n cut.0 (mount_some (get w.mounts n) (union_some (kind_in (facts_of w) n) (first_of (is_union (kind_in (facts_of w) n)) (names_mounts (facts_of w) p) x))),
+    other_than n cut.0 (mount_there (get w.mounts n) (union_there (kind_in (facts_of w) n) (first_of (is_union (kind_in (facts_of w) n)) (names_mounts (facts_of w) p) x))),
     named_not p (second_of (is_union (kind_in (facts_of w) n)) (names_mounts (facts_of w) p) x) cut.1,
   )
 
@@ -434,13 +408,9 @@ module _ (w : World) (h : IsWhole w) (c m : ℕ) (leaves : get w.leaving c ≡ S
   fewer_left : (d : ℕ) (Q : ℕ → Type 0) → IfSome (get w.leaving d) Q → IfSome (get leaving d) Q
   fewer_left d Q x = subst (λ o. IfSome o Q) (sym (get-remove nat_cmp_total w.leaving c d)) (left_gone Q (eq_by_cmp nat_cmp d c) (get w.leaving d) x)
 
-  abbrev number_or : Option ℕ → ℕ
-  number_or (Some n) = n
-  number_or None = 0
-
   still_there : (d v : ℕ) → get w.leaving d ≡ Some v → (v ≡ m → ⊥) → get leaving d ≡ Some v
   still_there d v at ne = get-remove nat_cmp_total w.leaving c d ∙ (elim (eq_by_cmp nat_cmp d c) as (λ b. eq_by_cmp nat_cmp d c ≡ b → cond b None (get w.leaving d) ≡ Some v) [
-    | true ↦ λ e. absurd (ne (ap number_or (sym at ∙ ap (get w.leaving) (exact_unsigned d c (tied _ e)) ∙ leaves)))
+    | true ↦ λ e. absurd (ne (ap number_or (sym at ∙ ap (get w.leaving) (exact_unsigned d c (equal _ e)) ∙ leaves)))
     | false ↦ λ _. at
   ] refl)
 

@@ -1,6 +1,6 @@
 -- What walks find is sound.
 use Rattle.std.proofs.Common.{◌≡◌, ℕ, zero, suc, ◌+◌, ◌≤◌, ◌<◌, Bool, true, false, cond, not, ◌&&◌, ◌==◌, List, [], ◌∷◌, ◌++◌, map, length, filter, refl, ap, sym, subst, arith}
-use Rattle.std.specs.Prelude.{Option, Some, None, IsSome, option_map, nat_lt}
+use Rattle.std.specs.Prelude.{Option, Some, None, IsSome, nat_lt}
 use Rattle.std.specs.List.{slice_split, onto_first}
 use Rattle.vfs_tree.specs.Child.{child_of, steps}
 use Rattle.vfs_tree.specs.Facts.{Facts}
@@ -13,7 +13,6 @@ use Rattle.vfs_tree.specs.Steps.{◌>>=◌, ◌>>◌, refuse_if}
 use Rattle.vfs_tree.specs.Walk.{Walked, Jump, enter_case, enter_within, is_mount, entered, above, check_dir, absent, followed, pass, pass_child, along, begin, spliced, jump_along, jump_within, walk_from, walk_path, but_last, last_name, named, parent_at, parent_found, mount_found, walk, found_of, find}
 use Rattle.vfs_tree.specs.declared.errno.Errno.{Errno}
 use Rattle.vfs_tree.specs.declared.errno.Errno.TheVariants as errno
-use Rattle.vfs_tree.specs.declared.mount.Mount.{Mount as MountRecord}
 use Rattle.vfs_tree.specs.declared.mount.MountKind.{MountKind}
 use Rattle.vfs_tree.specs.declared.mount.MountKind.TheVariants as kind
 use Rattle.vfs_tree.specs.declared.walk.Child.{Child}
@@ -29,7 +28,7 @@ use Rattle.vfs_tree.specs.declared.walk.Step.{Step}
 use Rattle.vfs_tree.specs.declared.walk.Step.TheVariants.{Go, Refuse, Wants}
 use Rattle.call_laws.proofs.FoundLaws.{IsGood, IsGoodView, good_root, GoodChild, good-child, good_above}
 use Rattle.call_laws.proofs.NamedLaws.{no_way}
-use Rattle.call_laws.proofs.SoundParts.{first_of}
+use Rattle.call_laws.proofs.SoundParts.{first_of, mem_there, null_there, union_there, mount_there}
 
 -- ---- relative paths have a component
 
@@ -127,18 +126,6 @@ root_mount m (Some (kind.Null layer)) = refl
 root_mount m (Some (kind.Union s u l)) = refl
 root_mount m None = refl
 
-mem_there : (o : Option MountKind) → is_mem o ≡ true → IsSome o
-mem_there (Some k) h = refl
-mem_there None h = no_way h
-
-null_there : (o : Option MountKind) → is_null o ≡ true → IsSome o
-null_there (Some k) h = refl
-null_there None h = no_way h
-
-union_there : (o : Option MountKind) → is_union o ≡ true → IsSome o
-union_there (Some k) h = refl
-union_there None h = no_way h
-
 -- the mount of a place is there
 head_kind : (f : Facts) (p : Seen) → names_mounts f p ≡ true → IsSome (kind_in f (mount_of p))
 head_kind f (Mem m i) h = mem_there (kind_in f m) h
@@ -146,12 +133,8 @@ head_kind f (Null m p) h = null_there (kind_in f m) (first_of (is_null (kind_in 
 head_kind f (UnionUp m i) h = union_there (kind_in f m) h
 head_kind f (UnionLow m u n p) h = union_there (kind_in f m) (first_of (is_union (kind_in f m)) (names_mounts f p) h)
 
-kind_some : (o : Option MountRecord) → IsSome (option_map (λ (t : MountRecord). t.kind) o) → IsSome o
-kind_some (Some t) h = refl
-kind_some None h = no_way h
-
 pub head_there : (f : Facts) (p : Seen) → names_mounts f p ≡ true → IsSome (f.mount (mount_of p))
-head_there f p h = kind_some (f.mount (mount_of p)) (head_kind f p h)
+head_there f p h = mount_there (f.mount (mount_of p)) (head_kind f p h)
 
 module _ (f : Facts) (view : IsGoodView f) where
   -- ---- into the mounts that cover a place

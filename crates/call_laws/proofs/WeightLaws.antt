@@ -20,7 +20,7 @@ weigh f (e ∷ es) = f e.1 + weigh f es
 
 -- ---- orders and tests
 
-equal : (r : Ordering) → is_eq r ≡ true → r ≡ Equal
+pub equal : (r : Ordering) → is_eq r ≡ true → r ≡ Equal
 equal Less e = cc
 equal Equal e = refl
 equal Greater e = cc

@@ -30,7 +30,7 @@ use Rattle.call_laws.proofs.MadeLaws.{IsFresh, StoreNames, kind_at, some_stays, 
 use Rattle.call_laws.proofs.SoundLaws.{sound-open, sound-closed, sound-cwd}
 use Rattle.call_laws.proofs.SoundMade.{NamesOf, sound-stores, dir_at, link_at}
 use Rattle.call_laws.proofs.Whole.{IsWhole}
-use Rattle.call_laws.proofs.SoundParts.{if_each, each_place, Stays, same_kind_of}
+use Rattle.call_laws.proofs.SoundParts.{if_each, each_place, Stays, same_kind_of, if_both}
 
 -- ---- places
 
@@ -50,10 +50,6 @@ uncut_stays f g stay (Mem m i) h = stay m h
 uncut_stays f g stay (Null m p) h = (stay m h.0, uncut_stays f g stay p h.1)
 uncut_stays f g stay (UnionUp m i) h = stay m h
 uncut_stays f g stay (UnionLow m u n p) h = (stay m h.0, uncut_stays f g stay p h.1)
-
-pub if_both : {A : Type 0} (P Q R : A → Type 0) → ((a : A) → P a → Q a → R a) → (o : Option A) → IfSome o P → IfSome o Q → IfSome o R
-if_both P Q R f (Some a) p q = f a p q
-if_both P Q R f None p q = tt
 
 -- a directory stays one
 pub dir_stays : (f g : Facts) → Stays f g → (p : Seen) → IsSoundPlace f p → is_dir f p ≡ true → is_dir g p ≡ true

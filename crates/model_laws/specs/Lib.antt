@@ -1,0 +1,4 @@
+pub mod Alike
+pub mod Named
+pub mod Telling
+pub mod Unmounted
