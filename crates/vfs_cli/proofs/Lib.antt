@@ -1,3 +1,6 @@
 pub mod Seeds
 pub mod RunLaws
 pub mod EndLaws
+pub mod PlanLaws
+pub mod WorkerLaws
+pub mod Sending

@@ -19,9 +19,9 @@ use Rattle.vfs_core.specs.Work.{Work}
 use Rattle.vfs_core.specs.Queues.{queue_at}
 use Rattle.vfs_core.specs.Turning.{FitsJob, Runs, IsDone, calls_with, HasLeft, lines_of}
 use Rattle.script_text.specs.Script.{HasText}
-use Rattle.vfs_cli.specs.Output.{IsFor, HasRun, IsInTurn, TakesTurns}
+use Rattle.vfs_cli.specs.Output.{IsAhead, IsFor, HasRun, IsInTurn, TakesTurns}
 use Rattle.vfs_cli.specs.declared.words.Turns.{Turns}
-use Rattle.vfs_cli.specs.declared.words.Turns.TheVariants.{Scattered, InOrder}
+use Rattle.vfs_cli.specs.declared.words.Turns.TheVariants.{Scattered, InOrder, Together}
 
 -- a line of a script can be run
 fits_line : (limits : Limits) (line : Line) → FitsLine limits.callers line → FitsJob limits line
@@ -50,16 +50,23 @@ is_for script kern job lines new is each left are = record {
 in_turn : (turns : Turns) (script : Script) (start end : Work) → IsFor script start → TakesTurns turns start end → IsInTurn turns script end.kern.history
 in_turn (Scattered seed) script start end for takes = tt
 in_turn InOrder script start end for takes = takes script.lines for.left ∙ ap (λ h. lines_of h ++ script.lines) for.history
+in_turn Together script start end for takes = tt
 
--- a job that is done has run the script
-pub has_run : (turns : Turns) (script : Script) (start end : Work) → IsFor script start → Runs start end → ((c : ℕ) → IsDone end c) → TakesTurns turns start end → HasRun turns script end.kern
-has_run turns script start end for runs done takes = record {
-  limits = runs.limits ∙ for.limits;
+-- a job that is done has run what was left of the script
+pub has_run_rest : (script : Script) (start end : Work) → IsAhead script start → Runs start end → ((c : ℕ) → IsDone end c) → HasRun Together script end.kern
+has_run_rest script start end ahead runs done = record {
+  limits = runs.limits ∙ ahead.limits;
   idle = same_map nat_cmp_total nat_cmp-IsAntisymmetric end.kern.pending empty (λ c. (done c).live ∙ sym (get-empty nat_cmp c));
   calls = λ c.
       let rest : calls_with end c ≡ calls_of c end.kern.history = ap (λ o. calls_of c end.kern.history ++ (option_to_list o ++ queue_at end.left c)) (done c).live
       ∙ ap (λ (t : List Call). calls_of c end.kern.history ++ t) (done c).left ∙ append-nil (calls_of c end.kern.history)
       in
-      sym rest ∙ runs.each_call c ∙ for.calls c;
-  in_turn = in_turn turns script start end for takes;
+      sym rest ∙ runs.each_call c ∙ ahead.calls c;
+  in_turn = tt;
 }
+
+-- a job that is done has run the script
+pub has_run : (turns : Turns) (script : Script) (start end : Work) → IsFor script start → Runs start end → ((c : ℕ) → IsDone end c) → TakesTurns turns start end → HasRun turns script end.kern
+has_run turns script start end for runs done takes =
+    let run = has_run_rest script start end (record { limits = for.limits; calls = for.calls }) runs done in
+    record { limits = run.limits; idle = run.idle; calls = run.calls; in_turn = in_turn turns script start end for takes }

@@ -15,7 +15,7 @@ use Rattle.vfs_core.specs.Kernel.{Kernel}
 use Rattle.vfs_core.specs.Turning.{lines_of, HasLeft, calls_with}
 use Rattle.vfs_core.specs.Work.{Work}
 use Rattle.vfs_cli.specs.declared.words.Turns.{Turns}
-use Rattle.vfs_cli.specs.declared.words.Turns.TheVariants.{Scattered, InOrder}
+use Rattle.vfs_cli.specs.declared.words.Turns.TheVariants.{Scattered, InOrder, Together}
 
 -- a legal history, with no call pending, from the world at the start on, in which each caller's calls are those of the
 -- script, in their order
@@ -27,15 +27,22 @@ pub record IsHistoryOf (script : Script) (history : List Entry) : Type 0 where
 abbrev pub IsInTurn : Turns → Script → List Entry → Type 0
 IsInTurn (Scattered seed) script history = Unit {0}
 IsInTurn InOrder script history = lines_of history ≡ script.lines
+IsInTurn Together script history = Unit {0}
 
 -- where the lines were to be run in their order, the call entries that are new are the lines that were left
 abbrev pub TakesTurns : Turns → Work → Work → Type 0
 TakesTurns (Scattered seed) old new = Unit {0}
 TakesTurns InOrder old new = (lines : List Line) → HasLeft lines old → lines_of new.kern.history ≡ lines_of old.kern.history ++ lines
+TakesTurns Together old new = Unit {0}
 
 -- the world that a history of a script leaves
 abbrev pub world_left : Script → List Entry → World
 world_left script history = replay (start_world script.limits) history
+
+-- a job in which each caller's calls, those in the history and then those that are left, are the script's
+pub record IsAhead (script : Script) (job : Work) : Type 0 where
+  pub limits : job.kern.limits ≡ script.limits
+  pub calls : (c : ℕ) → calls_with job c ≡ calls_in c script.lines
 
 -- a job of the script's calls, none of which was begun
 pub record IsFor (script : Script) (job : Work) : Type 0 where

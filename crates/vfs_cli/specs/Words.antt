@@ -4,7 +4,7 @@ use Rattle.std.specs.Str.{bytes_eq}
 use Rattle.std.specs.Str.Parse.{digits_value}
 use Rattle.vfs_cli.specs.declared.words.Command.{Command}
 use Rattle.vfs_cli.specs.declared.words.Command.TheVariants.{Run, Gen, Show}
-use Rattle.vfs_cli.specs.declared.words.Turns.TheVariants.{Scattered, InOrder}
+use Rattle.vfs_cli.specs.declared.words.Turns.TheVariants.{Scattered, InOrder, Together}
 
 -- the number of 64 bits that the word spells: each number has one spelling, without a leading zero
 unfoldable pub seed_at : List ℕ → Option ℕ
@@ -22,13 +22,27 @@ making word (Some seed) (Some calls) =
 making word (Some seed) None = None
 making word None calls = None
 
--- `run --order`, `run --seed N`, `gen --seed N --calls K` or `show --seed N --calls K`
+-- `run`, `run --order`, `run --seed N`, `gen --seed N --calls K` or `show --seed N --calls K`
 abbrev pub command_of : List (List ℕ) → Option Command
+command_of (word ∷ []) = cond (bytes_eq word (codes "run")) (Some (Run Together)) None
 command_of (word ∷ order ∷ []) = cond (bytes_eq word (codes "run") && bytes_eq order (codes "--order")) (Some (Run InOrder)) None
 command_of (word ∷ seed ∷ number ∷ []) = cond (bytes_eq word (codes "run") && bytes_eq seed (codes "--seed")) (option_map (λ n. Run (Scattered n)) (seed_at number)) None
 command_of (word ∷ seed ∷ number ∷ calls ∷ count ∷ []) =
     cond (bytes_eq seed (codes "--seed") && bytes_eq calls (codes "--calls")) (making word (seed_at number) (few_calls (seed_at count))) None
 command_of words = None
+
+-- a command, unless each caller has a thread in it
+abbrev pub alone : Option Command → Option Command
+alone (Some (Run Together)) = None
+alone (Some (Run (Scattered seed))) = Some (Run (Scattered seed))
+alone (Some (Run InOrder)) = Some (Run InOrder)
+alone (Some (Gen seed calls)) = Some (Gen seed calls)
+alone (Some (Show seed calls)) = Some (Show seed calls)
+alone None = None
+
+-- the same, but for `run` alone
+abbrev pub serial_command_of : List (List ℕ) → Option Command
+serial_command_of words = alone (command_of words)
 
 -- whether a command reads a script
 abbrev pub reads : Command → Bool

@@ -1,19 +1,24 @@
 //! Runs a script of file calls from standard input, and writes the history of all calls and the final trees.
 //!
-//! `run --seed N` and `run --order` run a script from standard input; `gen --seed N --calls K` runs one that it makes and
+//! `run`, `run --seed N` and `run --order` run a script from standard input, the first with a thread for each caller; `gen --seed N --calls K` runs one that it makes and
 //! sums it up, and `show --seed N --calls K` shows that one. The exit status says how the run ended.
 #![tactic(auto)]
 
+mod plan;
 mod running;
 mod serial;
 #[cfg(test)]
 mod tests;
+mod together;
+mod top;
 mod words;
+mod worker;
 
-use serial::{Ending, serial_main, status_of};
+use serial::{Ending, status_of};
 use std::process::ExitCode;
 use std::{env, io};
-use vfs_flow::{StdSink, StdSource};
+use top::vfs_main;
+use vfs_flow::{OpenGate, StdSink, StdSource};
 
 /// The exit status of an ending.
 fn exit_code(ending: Ending) -> ExitCode {
@@ -38,6 +43,6 @@ fn main(rt: HostRuntime) -> ExitCode {
     }
     let mut source = StdSource::new(rt.stdin());
     let mut sink = StdSink::new(rt.stdout());
-    let status = serial_main(alloc, &words, &mut source, &mut sink);
+    let status = vfs_main(&rt, alloc, &words, &mut source, &mut sink, &OpenGate);
     ExitCode::from(status.code as u8)
 }

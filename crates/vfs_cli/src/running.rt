@@ -1,8 +1,10 @@
 // From a script to what is written of it.
 ghost use Rattle.std.specs.Prelude.{◌≡◌, ◌≤◌, ℕ, IfOk, OnOk};
 ghost use Rattle.script_text.specs.Script.{HasText, script_text};
+ghost use Rattle.script_text.specs.declared.script.Script.{Script};
 ghost use Rattle.vfs_core.specs.Turning.{Runs, IsDone};
 ghost use Rattle.vfs_cli.specs.Output.{IsFor, HasRun, TakesTurns, Outputs, Sums, generated};
+ghost use Rattle.vfs_cli.specs.declared.words.Turns.{Turns};
 
 use crate::words::Turns;
 use script_text::{Script, gen_script, print_script};
@@ -12,14 +14,15 @@ use vfs_core::{Job, Kern};
 use vfs_tree::Bytes;
 
 /// Runs all calls of a job. The only fault is want of memory.
-fn run_job(alloc: Global, job: &mut Job, turns: Turns) -> Result<(), AllocError>
+pub fn run_job(alloc: Global, job: &mut Job, turns: Turns) -> Result<(), AllocError>
     ensures runs { Runs job.old job.new }
     ensures done { OnOk result ((c : ℕ) → IsDone job.new c) }
     ensures in_turn { OnOk result (TakesTurns turns job.old job.new) }
 {
     match turns {
         Turns::Scattered { seed } => job.run_seed(alloc, seed),
-        Turns::InOrder => job.run_order(alloc),
+        // What callers on threads of their own have left is run line by line.
+        Turns::InOrder | Turns::Together => job.run_order(alloc),
     }
 }
 
@@ -42,16 +45,23 @@ fn run_calls(alloc: Global, script: Script, turns: Turns) -> Result<Kern, AllocE
     Ok(job.into_kern())
 }
 
+/// The output of a run, by the kernel after all calls. The only fault is want of memory.
+pub fn output_of(alloc: Global, kern: &Kern) -> Result<Bytes, AllocError>
+    ensures { IfOk result (λ text. (turns : Turns) (script : Script) → HasRun turns script kern.now → Outputs turns script text) }
+{
+    let world = kern.world(alloc)?;
+    let mut output = Bytes::new(alloc);
+    print_output(alloc, kern.history(), &world, &mut output)?;
+    Ok(output)
+}
+
 /// The output of a run of the script. The only fault is want of memory.
 pub fn run(alloc: Global, script: Script, turns: Turns) -> Result<Bytes, AllocError>
     requires { HasText script }
     ensures { IfOk result (Outputs turns script) }
 {
     let kern = run_calls(alloc, script, turns)?;
-    let world = kern.world(alloc)?;
-    let mut output = Bytes::new(alloc);
-    print_output(alloc, kern.history(), &world, &mut output)?;
-    Ok(output)
+    output_of(alloc, &kern)
 }
 
 /// The summary of a run of the script that the generator makes of the seed, with its turns by the same seed. The only

@@ -1,13 +1,16 @@
 use crate::running::job_of;
 use crate::serial::{Status, serial_main, sure_main};
+use crate::top::vfs_main;
 use script_text::gen_script;
 use std::alloc::{AllocError, Global};
 use std::process::Abort;
+use std::sync::Wait;
 use std::test::Fail;
+use std::thread::Threads;
 use trace_text::print_history;
 use turn_order::pick;
 use vfs_core::{Job, Kern, Turned};
-use vfs_flow::{MemSink, MemSource, SureSink, SureSource};
+use vfs_flow::{FlagGate, Gate, MeetGate, MemSink, MemSource, OpenGate, SureSink, SureSource};
 use vfs_tree::Bytes;
 
 const EMPTY: &[u8] = b"vfs 1\nend\n";
@@ -29,6 +32,8 @@ const UNION: &[u8] =
 
 const UNION_OUTPUT: &[u8] =
     b"vfs output 1\n1 mkdir /l = ok\n1 open /l/f wc = fd 0\n1 write 0 low = count 3\n1 close 0 = ok\n1 mkdir /u = ok\n1 mountmem /u = ok\n1 mountunion /u /l = ok\n1 open /l/f r = fd 0\n1 read 0 2 = data lo\n2 + copyup 2 1 f\n2 open /l/f w = fd 0\n2 pwrite 0 0 NEW = count 3\n1 pread 0 9 0 = data NEW\n1 unlink /l/f = ok\n1 stat /l/f = error ENOENT\n1 undelete /l/f = ok\n1 + detach 2\n1 + doom 1 fd 0\n1 umountforce /l = ok\n1 pread 0 1 0 = error EIO\n1 close 0 = ok\ntrees\nmount 0 mem on -\ndir 1 1 plain\nname l 2\nname u 4\ndir 2 1 plain\nname f 3\nfile 3 3 0:low\ndir 4 1 plain\nmount 1 mem on m0:4\ndir 1 1 plain\nend\n";
+
+const PAIR: &[u8] = b"vfs 1\nlimits 2 1 1 144\n1 mkdir /a\n2 mkdir /b\nend\n";
 
 fn words_of(alloc: Global, text: &str) -> Result<Vec<String>, AllocError> {
     let mut words = Vec::new(alloc);
@@ -174,7 +179,57 @@ fn each_failing_write_ends_the_run(rt: HostRuntime) -> Result<(), Fail> {
     Ok(())
 }
 
-// A text with a word in its middle.
+// The status and the output of `run` at a gate, over a source and a sink that never fail.
+fn run_at<R: Threads + Wait + Sync, G: Gate + Sync>(
+    rt: &R,
+    alloc: Global,
+    gate: &G,
+    words: &str,
+    script: &[u8],
+) -> Result<(Status, SureSink), AllocError> {
+    let words = words_of(alloc, words)?;
+    let mut source = SureSource::new(Vec::from_slice(alloc, script)?);
+    let mut sink = SureSink::new(alloc);
+    let status = vfs_main(rt, alloc, &words, &mut source, &mut sink, gate);
+    Ok((status, sink))
+}
+
+#[test]
+fn a_caller_alone_on_a_thread_runs_in_order(rt: HostRuntime) -> Result<(), Fail> {
+    let (status, sink) = run_at(&rt, rt.alloc(), &OpenGate, "run", SCRIPT)?;
+    assert_eq!(rt; status, Status { code: 0, line: 0 });
+    assert_eq!(rt; sink.bytes(), OUTPUT);
+    Ok(())
+}
+
+#[test]
+fn other_words_are_handed_on(rt: HostRuntime) -> Result<(), Fail> {
+    for (words, code) in [("run --order", 0), ("run --fast", 64), ("walk", 64)] {
+        let (status, _sink) = run_at(&rt, rt.alloc(), &OpenGate, words, SCRIPT)?;
+        assert_eq!(rt; status.code, code, "{words}");
+    }
+    Ok(())
+}
+
+#[test]
+fn a_held_call_comes_second(rt: HostRuntime) -> Result<(), Fail> {
+    let gate = FlagGate::new(1, 0, 2, 0);
+    let (status, sink) = run_at(&rt, rt.alloc(), &gate, "run", PAIR)?;
+    assert_eq!(rt; status.code, 0);
+    let start = b"vfs output 1\n2 mkdir /b = ok\n1 mkdir /a = ok\ntrees\n";
+    assert!(rt; sink.bytes().starts_with(start));
+    assert!(rt; gate.holds() < 100_000_000);
+    Ok(())
+}
+
+#[test]
+fn two_callers_meet(rt: HostRuntime) -> Result<(), Fail> {
+    let gate = MeetGate::new(1, 0, 2, 0);
+    let (status, _sink) = run_at(&rt, rt.alloc(), &gate, "run", PAIR)?;
+    assert_eq!(rt; status.code, 0);
+    assert!(rt; !gate.missed());
+    Ok(())
+}
 
 fn history_of(alloc: Global, kern: &Kern) -> Result<Bytes, AllocError> {
     let mut text = Bytes::new(alloc);

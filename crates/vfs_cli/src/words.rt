@@ -1,6 +1,6 @@
 // The words after the program's name.
 ghost use Rattle.std.specs.Prelude.{◌≡◌, ◌<◌, ◌≤◌, ◌^◌, ℕ, ◌∷◌, [], map, string_bytes, IfSome, IfNone, decimal};
-ghost use Rattle.vfs_cli.specs.Words.{seed_at, few_calls, making, command_of, HasFew};
+ghost use Rattle.vfs_cli.specs.Words.{seed_at, few_calls, making, command_of, serial_command_of, HasFew};
 
 use itoa::Buffer;
 
@@ -59,6 +59,8 @@ fn calls_of(word: &[u8]) -> Option<u32>
 /// How the callers of a script take turns.
 #[derive(Clone, Copy, Debug, PartialEq, Eq)]
 pub enum Turns {
+    /// Each caller is on a thread of its own, and turns come as the threads do.
+    Together,
     /// Each turn falls on a caller by the seed.
     Scattered {
         /// The seed.
@@ -71,7 +73,7 @@ pub enum Turns {
 /// What the program is told to do.
 #[derive(Clone, Copy, Debug, PartialEq, Eq)]
 pub enum Command {
-    /// A script is read and run: `run --seed N`, `run --order`.
+    /// A script is read and run: `run`, `run --seed N`, `run --order`.
     Run {
         /// How its callers take turns.
         turns: Turns,
@@ -90,6 +92,19 @@ pub enum Command {
         /// How many calls the script has.
         calls: u32,
     },
+}
+
+/// The word `run`.
+fn run_together(word: &[u8]) -> Option<Command>
+    ensures command { result ≡ command_of (word.now ∷ []) }
+    ensures few { IfSome result HasFew }
+{
+    if word != b"run".as_slice() {
+        return None;
+    }
+    Some(Command::Run {
+        turns: Turns::Together,
+    })
 }
 
 /// The words `run --order`.
@@ -156,6 +171,7 @@ pub fn command_of(words: &[String]) -> Option<Command>
     ensures few { IfSome result HasFew }
 {
     match words {
+        [word] => run_together(word.as_bytes()),
         [word, order] => run_in_order(word.as_bytes(), order.as_bytes()),
         [word, seed, number] => { run_by_seed(word.as_bytes(), seed.as_bytes(), number.as_bytes()) }
         [word, seed, number, calls, count] => make(
@@ -166,5 +182,20 @@ pub fn command_of(words: &[String]) -> Option<Command>
             count.as_bytes(),
         ),
         _ => None,
+    }
+}
+
+/// What the words say that one thread can do; `None` where they are no command, or the word `run` alone.
+pub fn serial_command_of(words: &[String]) -> Option<Command>
+    ensures command { result ≡ serial_command_of (map string_bytes words.now) }
+    ensures few { IfSome result HasFew }
+{
+    match command_of(words) {
+        Some(
+            Command::Run {
+                turns: Turns::Together,
+            },
+        ) => None,
+        command => command,
     }
 }
