@@ -231,6 +231,86 @@ fn two_callers_meet(rt: HostRuntime) -> Result<(), Fail> {
     Ok(())
 }
 
+// Sixteen calls on names that all callers share; each caller begins with another one of them.
+const CALLS: [&str; 16] = [
+    "mkdir /a",
+    "open /a/f bca",
+    "write 0 one",
+    "pread 0 40 0",
+    "close 0",
+    "mkdir /b",
+    "rename /a/f /b/g",
+    "open /b/g bca",
+    "write 0 two",
+    "stat /b/g",
+    "pread 0 40 0",
+    "close 0",
+    "unlink /a/f",
+    "rename /b/g /a/f",
+    "rmdir /b",
+    "stat /a/f",
+];
+
+fn script_of_sixteen(alloc: Global) -> Result<String, AllocError> {
+    let mut script = String::from_str(alloc, "vfs 1\n")?;
+    for caller in 1..=CALLS.len() {
+        for place in 0..CALLS.len() {
+            writeln!(script, "{caller} {}", CALLS[(caller + place) % CALLS.len()])?;
+        }
+    }
+    script.push_str("end\n")?;
+    Ok(script)
+}
+
+// The calls of an output as a script, in the order in which the history has them.
+fn calls_again(alloc: Global, output: &[u8]) -> Result<String, AllocError> {
+    let mut script = String::from_str(alloc, "vfs 1\n")?;
+    for line in str::from_utf8(output).unwrap_or("").split('\n') {
+        if let Some((call, _reply)) = line.split_once(" = ") {
+            script.push_str(call)?;
+            script.push('\n')?;
+        }
+    }
+    script.push_str("end\n")?;
+    Ok(script)
+}
+
+fn calls_of_caller(alloc: Global, script: &str, caller: usize) -> Result<String, AllocError> {
+    let name = format!(in alloc; "{caller}")?;
+    let mut calls = String::new(alloc);
+    for line in script.split('\n') {
+        if let Some((who, call)) = line.split_once(' ') {
+            if who == name.as_str() {
+                calls.push_str(call)?;
+                calls.push('\n')?;
+            }
+        }
+    }
+    Ok(calls)
+}
+
+#[test]
+fn sixteen_callers_make_their_calls_in_order(rt: HostRuntime) -> Result<(), Fail> {
+    let alloc = rt.alloc();
+    let script = script_of_sixteen(alloc)?;
+    for run in 0..3 {
+        let (status, sink) = run_at(&rt, alloc, &OpenGate, "run", script.as_bytes())?;
+        assert_eq!(rt; status.code, 0);
+        let again = calls_again(alloc, sink.bytes())?;
+        for caller in 1..=CALLS.len() {
+            assert_eq!(rt;
+                calls_of_caller(alloc, &again, caller)?,
+                calls_of_caller(alloc, &script, caller)?,
+                "run {run}, caller {caller}"
+            );
+        }
+        // The same calls give the same answers and the same trees.
+        let (_status, replay) = run_of(alloc, "run --order", again.as_bytes())?;
+        assert_eq!(rt; replay.bytes(), sink.bytes(), "run {run}");
+    }
+    Ok(())
+}
+
 fn history_of(alloc: Global, kern: &Kern) -> Result<Bytes, AllocError> {
     let mut text = Bytes::new(alloc);
     print_history(alloc, kern.history(), &mut text)?;
