@@ -1,7 +1,9 @@
 use denote.Param.Send.{sendable}
-use Rattle.vfs_cli.proofs.Sending.{seat-send}
-use Rattle.vfs_cli.proofs.plan.Plan.TheSendSync.{the_send}
+use Rattle.vfs_cli.proofs.Sending.{plan-send, seat-send, vfs-sync}
 use Rattle.vfs_cli.proofs.worker.work_all.Goals as goal
 
 pub for_each_mut-requires-send-T : goal.for_each_mut-requires-send-T
-for_each_mut-requires-send-T g c κs within = search (seat-send, the_send, sendable) depth 30
+for_each_mut-requires-send-T g c κs within = search (seat-send, plan-send, sendable) depth 30
+
+pub for_each_mut-requires-sync-F : goal.for_each_mut-requires-sync-F
+for_each_mut-requires-sync-F g c κs within = search (vfs-sync, sendable) depth 30
