@@ -1,5 +1,5 @@
 -- How what was written tells how a run ends.
-use Rattle.std.proofs.Common.{◌≡◌, ℕ, ◌<◌, List, [], length, refl, subst, sym, inl, inr, true, lit<}
+use Rattle.std.proofs.Common.{◌≡◌, ℕ, ◌<◌, List, [], length, refl, subst, sym, inl, inr, lit<}
 use Rattle.std.specs.Prelude.{Option, Some, ◌⊎◌}
 use Rattle.std.specs.Io.KnownBytes.{Appends, Consumes}
 use Rattle.vfs_flow.specs.Whole.{ReadsFewer}

@@ -1,16 +1,14 @@
 -- Workers are hired, work, and are gathered.
 use Rattle.std.proofs.Common.{◌≡◌, ◌≢◌, ℕ, ◌+◌, ◌-◌, ◌<◌, ◌≤◌, ◌==◌, true, false, cond, List, [], ◌∷◌, ◌++◌, length, get_or, take, drop, refl, sym, ap, subst, ◌∙◌, arith, inl, inr, append_assoc, append-nil}
-use Rattle.std.specs.Prelude.{Option, Some, None, unwrap_or, is_some, nat_eq, All}
+use Rattle.std.specs.Prelude.{Option, Some, None, unwrap_or, nat_eq, All}
 use Rattle.std.specs.Option.{option_or}
 use Rattle.std.proofs.lemmas.Bool.Decides.{eqb_tells}
 use Rattle.std.proofs.lemmas.List.{get_or_append_left, get_or_push, length_push, length-append, drop_all, take_all}
-use Rattle.vfs_tree.specs.Limits.{IsCaller}
-use Rattle.vfs_tree.specs.declared.limits.Limits.{Limits}
 use Rattle.call_model.specs.Legal.{calls_of}
 use Rattle.call_model.specs.declared.call.Call.{Call}
 use Rattle.call_model.specs.declared.entry.Entry.{Entry}
 use Rattle.call_model.specs.declared.reply.Reply.{Reply}
-use Rattle.vfs_core.specs.Seats.{Sharing, Seating, IsSeatOf, Called, made, has_number, own_calls}
+use Rattle.vfs_core.specs.Seats.{Sharing, Seating, IsSeatOf, Called, made, own_calls}
 use Rattle.vfs_cli.specs.Workers.{IsUpTo, plan_at, Worked, IsWorker, AreWorkers, IsFresh, HasGathered}
 use Rattle.vfs_cli.specs.declared.worker.Worker.{Worker}
 

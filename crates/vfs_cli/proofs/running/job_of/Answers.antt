@@ -1,6 +1,6 @@
-use Rattle.std.proofs.Common.{◌≡◌, ap}
+use Rattle.std.proofs.Common.{ap}
 use Rattle.vfs_core.specs.Kernel.{Kernel}
-use Rattle.vfs_cli.proofs.RunLaws.{fits_script, is_for}
+use Rattle.vfs_cli.proofs.RunLaws.{fits_script}
 use Rattle.vfs_cli.proofs.running.job_of.Goals as goal
 
 pub new-requires-2-clause-fits : goal.new-requires-2-clause-fits

@@ -1,4 +1,4 @@
-use Rattle.std.proofs.Common.{◌≡◌, ap, sym, ◌∙◌}
+use Rattle.std.proofs.Common.{ap, ◌∙◌}
 use Rattle.vfs_cli.specs.declared.serial.Status.{Status}
 use Rattle.vfs_cli.proofs.EndLaws.{read_few}
 use Rattle.vfs_cli.proofs.serial.serial_main.Goals as goal

@@ -1,4 +1,4 @@
-use Rattle.std.proofs.Common.{◌≡◌, ap, sym, ◌∙◌}
+use Rattle.std.proofs.Common.{ap, sym, ◌∙◌}
 use Rattle.std.specs.Prelude.{Some}
 use Rattle.vfs_cli.proofs.EndLaws.{same_command}
 use Rattle.vfs_cli.proofs.serial.serve.Goals as goal

@@ -1,4 +1,4 @@
-use Rattle.std.proofs.Common.{◌≡◌, ap, refl, sym, subst, Err}
+use Rattle.std.proofs.Common.{ap, refl, sym, subst, Err}
 use Rattle.script_text.specs.BadLine.{IsBadLine}
 use Rattle.vfs_cli.specs.declared.words.Command.TheVariants.{Run}
 use Rattle.vfs_cli.proofs.EndLaws.{told_bad}

@@ -1,4 +1,4 @@
-use Rattle.std.proofs.Common.{◌≡◌, ℕ, sym, arith, Ok, Err, ap, decimal, ◌∙◌, false}
+use Rattle.std.proofs.Common.{◌≡◌, sym, arith, ap, decimal, ◌∙◌, false}
 use Rattle.std.proofs.lemmas.Fmt.{parse-decimal}
 use Rattle.std.proofs.lemmas.Slice.Eq.{slice_eq-Decides}
 use Rattle.std.proofs.lemmas.Bool.Decides.{Decides-eqb}
