@@ -37,13 +37,25 @@ ledger-send = search (ledger-inside-send, sendable) depth 10
 kern-inside-send : IsSend KernInside.the_row
 kern-inside-send =
     recorded_send KernInside.the_field.row _ _ KernInside.the_type.to_one
-    (struct_send (shape KernInside.the_type) (search sendable depth 20,
-    (world-send,
-    (search (ledger-send, sendable) depth 20,
-    (search (call-send, maps, crosses, sendable) depth 20,
-    (search (buffer-send, maps, crosses, sendable) depth 30,
-    (search (crosses, sendable) depth 20,
-    tt)))))))
+    (struct_send (shape KernInside.the_type) (
+      search sendable depth 20,
+      (
+        world-send,
+        (
+          search (ledger-send, sendable) depth 20,
+          (
+            search (call-send, maps, crosses, sendable) depth 20,
+            (
+              search (buffer-send, maps, crosses, sendable) depth 30,
+              (
+                search (crosses, sendable) depth 20,
+                tt,
+              ),
+            ),
+          ),
+        ),
+      ),
+    ))
 
 kern-send : IsSend Kern.the_row
 kern-send = search (kern-inside-send, sendable) depth 10
