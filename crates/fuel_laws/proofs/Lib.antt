@@ -1,0 +1,11 @@
+pub mod ApartLaws
+pub mod LookLaws
+pub mod FallLaws
+pub mod LayerLaws
+pub mod WayLaws
+pub mod UpLaws
+pub mod ListLaws
+pub mod StepLaws
+pub mod OpenLaws
+pub mod OthersLaws
+pub mod PendingLaws

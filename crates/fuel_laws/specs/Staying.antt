@@ -1,0 +1,17 @@
+-- What stays of an open file when others copy and doom.
+use Rattle.std.specs.Prelude.{◌≡◌, Option, Some, None}
+use Rattle.vfs_tree.specs.declared.open.Open.{Open}
+
+-- all but its place
+abbrev pub StaysButPlace : Option Open → Option Open → Type 0
+StaysButPlace (Some old) (Some new) = (new.offset ≡ old.offset) × (new.mode ≡ old.mode) × (new.dead ≡ old.dead)
+StaysButPlace (Some old) None = ⊥
+StaysButPlace None (Some new) = ⊥
+StaysButPlace None None = Unit {0}
+
+-- all but whether it is dead
+abbrev pub StaysButDead : Option Open → Option Open → Type 0
+StaysButDead (Some old) (Some new) = (new.place ≡ old.place) × (new.offset ≡ old.offset) × (new.mode ≡ old.mode)
+StaysButDead (Some old) None = ⊥
+StaysButDead None (Some new) = ⊥
+StaysButDead None None = Unit {0}

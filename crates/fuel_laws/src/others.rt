@@ -1,0 +1,52 @@
+ghost use Rattle.std.specs.Prelude.{◌≡◌, ◌==◌, ℕ, List, false, option_map};
+ghost use Rattle.std.specs.FinMap.{get};
+ghost use Rattle.vfs_tree.specs.Child.{child_below, child_of, low};
+ghost use Rattle.vfs_tree.specs.Nodes.{next_of};
+ghost use Rattle.vfs_tree.specs.Place.{Seen, UnionLow, UnionUp};
+ghost use Rattle.vfs_tree.specs.Views.{facts_of};
+ghost use Rattle.vfs_tree.specs.declared.walk.Child.TheVariants as child;
+ghost use Rattle.vfs_tree.specs.declared.world.World.{World};
+ghost use Rattle.call_model.specs.Checks.{upper_store};
+ghost use Rattle.call_model.specs.Effects.{effect, turned_open};
+ghost use Rattle.call_model.specs.Legal.{Pending, after};
+ghost use Rattle.call_model.specs.declared.call.Call.{Call};
+ghost use Rattle.call_model.specs.declared.entry.Entry.TheVariants as entry;
+ghost use Rattle.call_model.specs.declared.entry.Inner.{Inner};
+ghost use Rattle.call_model.specs.declared.entry.Inner.TheVariants.{CopyUp, Detach, Doom, Shadow};
+ghost use Rattle.call_model.specs.declared.entry.Ref.{Ref};
+ghost use Rattle.call_model.specs.declared.reply.Reply.{Reply};
+ghost use Rattle.fuel_laws.specs.Ended.{pending_after};
+ghost use Rattle.fuel_laws.specs.Staying.{StaysButDead, StaysButPlace};
+
+/// What one caller's calls leave of what is another's: a law of the model, with no code.
+pub fn others_keep_what_is_theirs()
+    // Each of its descriptors stands for what it stood for, with the offset and the flags that it had,
+    ensures opens { (w : World) (c d fd : ℕ) (call : Call) (r : Reply)
+        → (d == c) ≡ false → get (after w (entry.Call c call r)).opens (d, fd) ≡ get w.opens (d, fd) }
+    // it is leaving the mount that it was leaving, or none as before,
+    ensures leaving { (w : World) (c d : ℕ) (call : Call) (r : Reply)
+        → (d == c) ≡ false → get (after w (entry.Call c call r)).leaving d ≡ get w.leaving d }
+    // and its call is pending as before.
+    ensures pending { (p : Pending) (c d : ℕ) (call : Call) (r : Reply)
+        → (d == c) ≡ false → get (pending_after p (entry.Call c call r)) d ≡ get p d }
+{}
+
+/// What the inner entries of one caller leave of what is open: a law of the model, with no code.
+pub fn inner_entries_keep_open_files()
+    // A shadow directory and a detach leave all open files as they are.
+    ensures shadow { (w : World) (c m u : ℕ) (n : List ℕ) → (effect w c (Shadow m u n)).opens ≡ w.opens }
+    ensures detach { (w : World) (c m : ℕ) → (effect w c (Detach m)).opens ≡ w.opens }
+    // A copy leaves all but their places,
+    ensures copy_up { (w : World) (c m u : ℕ) (n : List ℕ) (k : ℕ × ℕ)
+        → StaysButPlace (get w.opens k) (get (effect w c (CopyUp m u n)).opens k) }
+    // which turn from what was copied to the copy, where they stand on it.
+    ensures turned { (w : World) (c m u : ℕ) (n : List ℕ) (q : Seen) (k : ℕ × ℕ)
+        → child_below (child_of (facts_of w)) (low (facts_of w) m u) n ≡ child.At q
+        → get (effect w c (CopyUp m u n)).opens k
+        ≡ option_map (turned_open (UnionLow m u n q) (UnionUp m (next_of (get w.stores (upper_store w m))))) (get w.opens k) }
+    // A doom leaves all but whether they are dead.
+    ensures doom { (w : World) (c : ℕ) (at : Ref) (k : ℕ × ℕ) → StaysButDead (get w.opens k) (get (effect w c (Doom at)).opens k) }
+    // None changes which mounts others are leaving, or which calls are pending.
+    ensures leaving { (w : World) (c d : ℕ) (x : Inner) → (d == c) ≡ false → get (effect w c x).leaving d ≡ get w.leaving d }
+    ensures pending { (p : Pending) (c : ℕ) (x : Inner) → pending_after p (entry.Inner c x) ≡ p }
+{}
