@@ -1,0 +1,13 @@
+pub mod FirstNames
+pub mod StoreViews
+pub mod Touched
+pub mod NameViews
+pub mod MadeViews
+pub mod Only
+pub mod Answering
+pub mod MadeTells
+pub mod DropTells
+pub mod MoveTells
+pub mod HistoryTells
+pub mod KeptNodes
+pub mod OpenFiles
