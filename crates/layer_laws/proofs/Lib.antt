@@ -1,0 +1,15 @@
+pub mod LowerLaws
+pub mod NestLaws
+pub mod NullLaws
+pub mod ApartLaws
+pub mod AvoidLaws
+pub mod WayLaws
+pub mod MadeStores
+pub mod UpperLaws
+pub mod TwinLaws
+pub mod ShadowLaws
+pub mod CopyTwins
+pub mod UnionLaws
+pub mod HiddenLaws
+pub mod JoinLaws
+pub mod DeepLaws

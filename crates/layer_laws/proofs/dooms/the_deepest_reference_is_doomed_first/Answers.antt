@@ -1,0 +1,8 @@
+use Rattle.layer_laws.proofs.DeepLaws.{first_deepest, doomed_deepest}
+use Rattle.layer_laws.proofs.dooms.the_deepest_reference_is_doomed_first.Goals as goal
+
+pub returns-clause-first : goal.returns-clause-first
+returns-clause-first c = first_deepest
+
+pub returns-clause-doomed : goal.returns-clause-doomed
+returns-clause-doomed c = doomed_deepest

@@ -1,0 +1,22 @@
+ghost use Rattle.std.specs.Prelude.{◌≡◌, ℕ, List, Some};
+ghost use Rattle.std.specs.FinMap.{get};
+ghost use Rattle.vfs_tree.specs.declared.walk.Step.TheVariants.{Wants};
+ghost use Rattle.vfs_tree.specs.declared.world.World.{World};
+ghost use Rattle.call_model.specs.Refs.{first_in};
+ghost use Rattle.call_model.specs.Rows.{row};
+ghost use Rattle.call_model.specs.declared.call.Call.TheVariants as call;
+ghost use Rattle.call_model.specs.declared.entry.Inner.TheVariants.{Doom};
+ghost use Rattle.call_model.specs.declared.entry.Ref.{Ref};
+ghost use Rattle.call_laws.specs.Leaving.{IsLeaver};
+ghost use Rattle.layer_laws.specs.Deepest.{IsDeepest};
+
+/// The deepest reference is doomed first: a law of the model, with no code. So what a reference stands on outlives it.
+pub fn the_deepest_reference_is_doomed_first()
+    // The first live reference in a mount or in one that stands on it is at the greatest depth of these; where several are,
+    // no other comes before it by caller, descriptor and current directory.
+    ensures first { (w : World) (m : ℕ) (at : Ref) → first_in w m ≡ Some at → IsDeepest w m at }
+    // A forced unmount that has detached its mount dooms that one next.
+    ensures doomed { (w : World) (c m : ℕ) (text : List ℕ) (at : Ref)
+        → get w.leaving c ≡ Some m → IsLeaver (Some (call.UmountForce text)) → row w c (call.UmountForce text) ≡ Wants (Doom at)
+        → IsDeepest w m at }
+{}

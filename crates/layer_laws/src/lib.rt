@@ -1,0 +1,18 @@
+//! Laws of layers: what null mounts and unions show, and what edits through them leave.
+//!
+//! Each law is the contract of a function without a body's work: who holds the function's contract has the law.
+#![tactic(auto)]
+
+mod apart;
+mod dooms;
+mod hidden;
+mod nulls;
+mod opens;
+mod unions;
+
+pub use apart::layers_stay_apart;
+pub use dooms::the_deepest_reference_is_doomed_first;
+pub use hidden::edits_through_a_union_leave_its_lower_layer;
+pub use nulls::a_null_mount_shows_its_layer;
+pub use opens::a_copy_joins_no_open_files;
+pub use unions::{a_copy_changes_nothing_shown, a_shadow_directory_changes_nothing_shown};
