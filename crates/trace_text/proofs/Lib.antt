@@ -7,3 +7,4 @@ pub mod Replies
 pub mod Inners
 pub mod Calls
 pub mod Entries
+pub mod Parts

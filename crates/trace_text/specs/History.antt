@@ -11,6 +11,10 @@ abbrev pub entry_text : Entry → List ℕ
 entry_text (entry.Call caller call reply) = call_text caller call ++ codes " = " ++ reply_text reply
 entry_text (entry.Inner caller what) = decimal caller ++ codes " + " ++ inner_text what
 
--- the entries in their order, each with a line end
+-- the line of an entry, with its line end
+abbrev pub entry_line : Entry → List ℕ
+entry_line entry = entry_text entry ++ 10 ∷ []
+
+-- the lines of the entries in their order
 abbrev pub history_text : List Entry → List ℕ
-history_text entries = flat_map (λ entry. entry_text entry ++ 10 ∷ []) entries
+history_text entries = flat_map entry_line entries

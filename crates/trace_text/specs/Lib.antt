@@ -6,5 +6,6 @@ pub mod Node
 pub mod Trees
 pub mod History
 pub mod Output
+pub mod Parts
 pub mod Summary
 pub mod Bounded

@@ -1,5 +1,5 @@
 ghost use Rattle.std.specs.Prelude.{◌≡◌, [], ◌∷◌, ◌++◌, OnOk};
-ghost use Rattle.trace_text.specs.History.{entry_text, history_text};
+ghost use Rattle.trace_text.specs.History.{entry_text, entry_line, history_text};
 
 use crate::inner::put_inner;
 use crate::reply::put_reply;
@@ -28,13 +28,20 @@ fn put_entry(out: &mut Vec<u8>, entry: &Entry) -> Result<(), AllocError>
     }
 }
 
+/// Appends the line of an entry, with its line end. The only fault is want of memory.
+pub fn put_entry_line(out: &mut Vec<u8>, entry: &Entry) -> Result<(), AllocError>
+    ensures { OnOk result (out.new.items ≡ out.old.items ++ entry_line entry.now) }
+{
+    put_entry(out, entry)?;
+    out.extend_from_slice(b"\n")
+}
+
 /// Appends the lines of the entries. The only fault is want of memory.
 pub fn put_entries(out: &mut Vec<u8>, entries: &[Entry]) -> Result<(), AllocError>
     ensures { OnOk result (out.new.items ≡ out.old.items ++ history_text entries.now) }
 {
     for entry in entries {
-        put_entry(out, entry)?;
-        out.push(b'\n')?;
+        put_entry_line(out, entry)?;
     }
     Ok(())
 }

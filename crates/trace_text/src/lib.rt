@@ -14,5 +14,12 @@ mod summary;
 mod tests;
 mod trees;
 
-pub use laws::{same_text_same_history, same_text_same_inner, same_text_same_reply};
-pub use output::{print_history, print_output, print_summary, print_trees};
+pub use history::put_entry_line;
+pub use laws::{
+    parts_make_the_output, same_text_same_history, same_text_same_inner, same_text_same_reply,
+};
+pub use mount::put_mount;
+pub use output::{
+    first_line, last_line, print_history, print_output, print_summary, print_trees, trees_line,
+};
+pub use trees::{given_by, put_shown};

@@ -1,7 +1,7 @@
 ghost use Rattle.std.specs.Prelude.{◌≡◌, ◌++◌, OnOk, OnErr};
 ghost use Rattle.trace_text.specs.History.{history_text};
 ghost use Rattle.trace_text.specs.Trees.{trees_text};
-ghost use Rattle.trace_text.specs.Output.{output_text};
+ghost use Rattle.trace_text.specs.Output.{first_line, trees_line, last_line, output_text};
 ghost use Rattle.trace_text.specs.Summary.{summary_text};
 
 use crate::history::put_entries;
@@ -10,6 +10,27 @@ use crate::trees::put_trees;
 use call_model::History;
 use std::alloc::Global;
 use vfs_tree::{Bytes, NoMemory, World};
+
+/// The first line of an output, with its line end.
+pub fn first_line() -> &'static [u8]
+    ensures { result.now ≡ first_line }
+{
+    b"vfs output 1\n"
+}
+
+/// The line between the history and the trees, with its line end.
+pub fn trees_line() -> &'static [u8]
+    ensures { result.now ≡ trees_line }
+{
+    b"trees\n"
+}
+
+/// The last line of an output, with its line end.
+pub fn last_line() -> &'static [u8]
+    ensures { result.now ≡ last_line }
+{
+    b"end\n"
+}
 
 /// Appends the text of a history: one line for each entry, with its line end.
 ///
@@ -46,11 +67,11 @@ pub fn print_output(alloc: Global, h: &History, w: &World, out: &mut Bytes) -> R
     ensures err { OnErr result (out.new ≡ out.old) }
 {
     let mut text = Vec::new(alloc);
-    text.extend_from_slice(b"vfs output 1\n")?;
+    text.extend_from_slice(first_line())?;
     put_entries(&mut text, h.as_slice())?;
-    text.extend_from_slice(b"trees\n")?;
+    text.extend_from_slice(trees_line())?;
     put_trees(alloc, &mut text, w)?;
-    text.extend_from_slice(b"end\n")?;
+    text.extend_from_slice(last_line())?;
     out.extend_from_slice(text.as_slice())
 }
 

@@ -1,4 +1,5 @@
 use crate::output::{print_history, print_output, print_summary, print_trees};
+use crate::{first_line, given_by, last_line, put_entry_line, put_mount, put_shown, trees_line};
 use call_model::{Access, Call, Entry, Flags, History, Inner, MountWord, Ref, Reply, Whence};
 use finite_maps::NumberMap;
 use std::alloc::{AllocError, Global};
@@ -98,6 +99,32 @@ fn a_run_prints_its_history_and_its_trees(rt: HostRuntime) -> Result<(), Fail> {
     print_output(alloc, &history, &world, &mut out)?;
     let wanted =
         b"vfs output 1\n1 mkdir /a = ok\n1 stat /a = stat dir 0\n1 mkdir /a = error EEXIST\ntrees\nmount 0 mem on -\ndir 1 1 plain\nname a 2\ndir 2 1 plain\nend\n".as_slice();
+    assert_eq!(rt; out.as_slice(), wanted);
+    Ok(())
+}
+
+#[test]
+fn a_run_is_put_together_of_its_parts(rt: HostRuntime) -> Result<(), Fail> {
+    let alloc = rt.alloc();
+    let mut out = Vec::from_slice(alloc, first_line())?;
+    let p = bytes(alloc, b"/a")?;
+    let entry = Entry::Call {
+        caller: 2,
+        call: Call::Mkdir { p },
+        reply: Reply::Done,
+    };
+    put_entry_line(&mut out, &entry)?;
+    out.extend_from_slice(trees_line())?;
+    let on = Place::mem(0, 4);
+    put_mount(&mut out, 1, &mounted(1, MountKind::Mem, on, false))?;
+    let store = upper_store(alloc)?;
+    let given = given_by(alloc, &store)?;
+    for ino in [1, 2, 3] {
+        put_shown(&mut out, &given, ino, &directory(alloc, 1, true, &[])?)?;
+    }
+    out.extend_from_slice(last_line())?;
+    let wanted =
+        b"vfs output 1\n2 mkdir /a = ok\ntrees\nmount 1 mem on m0:4\ndir 1 1 opaque\ndir 2 1 opaque\nend\n".as_slice();
     assert_eq!(rt; out.as_slice(), wanted);
     Ok(())
 }

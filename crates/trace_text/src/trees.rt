@@ -30,8 +30,8 @@ fn add_node(given: &mut NumberMap<()>, node: &Node) -> Result<(), AllocError>
     }
 }
 
-/// The inode numbers that the names of a store give.
-fn given_by(alloc: Global, store: &Store) -> Result<NumberMap<()>, AllocError>
+/// The inode numbers that the names of a store give. The only fault is want of memory.
+pub fn given_by(alloc: Global, store: &Store) -> Result<NumberMap<()>, AllocError>
     ensures { IfOk result (λ given. (ino : ℕ) → is_some (get given ino) ≡ has_name store.now ino) }
 {
     let mut given = NumberMap::new(alloc);
@@ -41,7 +41,9 @@ fn given_by(alloc: Global, store: &Store) -> Result<NumberMap<()>, AllocError>
     Ok(given)
 }
 
-fn put_shown(
+/// Appends the lines of a node if it is the root or its number is among those that are given, and else nothing. The only
+/// fault is want of memory.
+pub fn put_shown(
     out: &mut Vec<u8>,
     given: &NumberMap<()>,
     ino: u32,

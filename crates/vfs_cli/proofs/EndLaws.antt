@@ -1,13 +1,18 @@
 -- How what was written tells how a run ends.
-use Rattle.std.proofs.Common.{◌≡◌, ℕ, ◌<◌, List, [], length, refl, subst, sym, inl, inr, lit<}
+use Rattle.std.proofs.Common.{◌≡◌, ℕ, ◌<◌, List, [], length, refl, subst, sym, inl, inr, lit<, arith}
 use Rattle.std.specs.Prelude.{Option, Some, ◌⊎◌}
 use Rattle.std.specs.Io.KnownBytes.{Appends, Consumes}
-use Rattle.vfs_flow.specs.Whole.{ReadsFewer}
+use Rattle.std.proofs.KnownBytes.{Appends-nil}
+use Rattle.vfs_flow.specs.Whole.{ReadsFewer, WritesFront}
 use Rattle.vfs_cli.specs.declared.serial.Ending.{Ending}
 use Rattle.vfs_cli.specs.declared.serial.Ending.TheVariants as ending
 use Rattle.vfs_cli.specs.declared.words.Command.{Command}
+use Rattle.vfs_cli.specs.declared.words.Turns.{Turns}
+use Rattle.script_text.specs.Script.{HasText, IsTextOf}
+use Rattle.script_text.specs.declared.script.Script.{Script}
+use Rattle.vfs_cli.specs.Output.{Outputs}
 use Rattle.vfs_cli.specs.declared.words.Command.TheVariants.{Run, Gen, Show}
-use Rattle.vfs_cli.specs.Outcome.{Ends, ReadNothing, WroteNothing, Wants, IsBad, WroteFront, Written, Told, Outcome, bad_text, code_of}
+use Rattle.vfs_cli.specs.Outcome.{Ends, ReadAll, ReadNothing, WroteNothing, Wants, IsBad, WroteFront, Written, Told, Outcome, bad_text, code_of}
 
 -- what a command has to write was written, or a front of it
 pub written_all : (command : Command) (e : Ends) (text : List ℕ) (end : Ending) → Wants command e text → Written e.written e.written' e.sink e.sink' text end → Outcome (Some command) e end
@@ -18,6 +23,19 @@ written_all command e text ending.TooLong wants h = absurd h
 written_all command e text ending.Usage wants h = absurd h
 written_all command e text (ending.BadScript line) wants h = absurd h
 written_all command e text ending.ReadFault wants h = absurd h
+
+-- the output of a run of the script was written, or a front of it, by a sink to which nothing was written before
+pub wrote_run : (turns : Turns) (script : Script) (e : Ends) (bytes text : List ℕ) (written : Option (List ℕ)) (sink : ℕ) (end : Ending) → HasText script → IsTextOf script bytes → ReadAll e bytes → Outputs turns script text → written ≡ e.written → sink ≡ e.sink
+    → Written written e.written' sink e.sink' text end → Outcome (Some (Run turns)) e end
+wrote_run turns script e bytes text written sink end can spelled all outputs same also wrote =
+    let from : Written e.written e.written' e.sink e.sink' text end =
+    subst (λ (n : ℕ). Written e.written e.written' n e.sink' text end) also (subst (λ (w : Option (List ℕ)). Written w e.written' sink e.sink' text end) same wrote)
+    in
+    written_all (Run turns) e text end (bytes, all, record { script = script; can = can; spelled = spelled; outputs = outputs }) from
+
+-- nothing was written, which is a front of each text
+pub front_none : (written : Option (List ℕ)) (text : List ℕ) → WritesFront written written text
+front_none written text = (0, omega arith, Appends-nil written)
 
 -- the bad line was told, or a front of it
 pub told_bad : (command : Command) (e : Ends) (line : ℕ) (end : Ending) → IsBad command e line → Told e.written e.written' e.sink e.sink' line end → Outcome (Some command) e end

@@ -7,7 +7,9 @@ use Rattle.std.specs.Ordering.{nat_cmp}
 use Rattle.std.specs.FinMap.{empty, get-empty, same_map, nat_cmp-IsAntisymmetric}
 use Rattle.std.proofs.lemmas.List.{append-nil}
 use Rattle.vfs_tree.specs.declared.limits.Limits.{Limits}
-use Rattle.call_model.specs.Legal.{calls_of, calls_in}
+use Rattle.vfs_tree.specs.Start.{start_world}
+use Rattle.vfs_tree.specs.declared.world.World.{World}
+use Rattle.call_model.specs.Legal.{Pending, IsLegal, replay, calls_of, calls_in}
 use Rattle.call_model.specs.declared.call.Call.{Call}
 use Rattle.call_model.specs.declared.call.Line.{Line}
 use Rattle.script_text.specs.Fits.{FitsLine}
@@ -17,7 +19,8 @@ use Rattle.vfs_core.specs.Work.{Work}
 use Rattle.vfs_core.specs.Queues.{queue_at}
 use Rattle.vfs_core.specs.Turning.{FitsJob, Runs, IsDone, calls_with, HasLeft, lines_of}
 use Rattle.script_text.specs.Script.{HasText}
-use Rattle.vfs_cli.specs.Output.{IsAhead, IsFor, HasRun, IsInTurn, TakesTurns}
+use Rattle.trace_text.specs.Output.{output_text}
+use Rattle.vfs_cli.specs.Output.{IsAhead, IsFor, HasRun, IsInTurn, TakesTurns, Outputs, run_text}
 use Rattle.vfs_cli.specs.declared.words.Turns.{Turns}
 use Rattle.vfs_cli.specs.declared.words.Turns.TheVariants.{Scattered, InOrder, Together}
 
@@ -68,3 +71,17 @@ pub has_run : (turns : Turns) (script : Script) (start end : Work) → IsFor scr
 has_run turns script start end for runs done takes =
     let run = has_run_rest script start end (record { limits = for.limits; calls = for.calls }) runs done in
     record { limits = run.limits; idle = run.idle; calls = run.calls; in_turn = in_turn turns script start end for takes }
+
+-- the output of a kernel that has run the script is that of a history of it
+pub outputs_run : (turns : Turns) (script : Script) (kern : Kernel) → IsLegal kern.pending (start_world kern.limits) kern.history → HasRun turns script kern → Outputs turns script (run_text kern)
+outputs_run turns script kern legal run =
+    let start : start_world kern.limits ≡ start_world script.limits = ap start_world run.limits in
+    record {
+      history = kern.history;
+      runs = record {
+        legal = subst (λ (w : World). IsLegal empty w kern.history) start (subst (λ (p : Pending). IsLegal p (start_world kern.limits) kern.history) run.idle legal);
+        calls = run.calls;
+      };
+      in_turn = run.in_turn;
+      output = ap (λ (w : World). output_text kern.history (replay w kern.history)) start;
+    }

@@ -11,7 +11,7 @@ use Rattle.script_text.specs.Script.{HasText, IsTextOf, default_limits}
 use Rattle.script_text.specs.declared.script.Script.{Script}
 use Rattle.trace_text.specs.Output.{output_text}
 use Rattle.trace_text.specs.Summary.{summary_text}
-use Rattle.vfs_core.specs.Kernel.{Kernel}
+use Rattle.vfs_core.specs.Kernel.{Kernel, world_of}
 use Rattle.vfs_core.specs.Turning.{lines_of, HasLeft, calls_with}
 use Rattle.vfs_core.specs.Work.{Work}
 use Rattle.vfs_cli.specs.declared.words.Turns.{Turns}
@@ -57,6 +57,10 @@ pub record HasRun (turns : Turns) (script : Script) (kern : Kernel) : Type 0 whe
   pub idle : kern.pending ≡ empty
   pub calls : (c : ℕ) → calls_of c kern.history ≡ calls_in c script.lines
   pub in_turn : IsInTurn turns script kern.history
+
+-- the output of a run, by the kernel after all calls: its history, and the trees of the world that the history leaves
+abbrev pub run_text : Kernel → List ℕ
+run_text kern = output_text kern.history (world_of kern)
 
 -- the text is the output of a history of the script, with the trees of the world that the history leaves
 pub record Outputs (turns : Turns) (script : Script) (text : List ℕ) : Type 0 where

@@ -13,6 +13,7 @@ mod together;
 mod top;
 mod words;
 mod worker;
+mod writing;
 
 use serial::{Ending, status_of};
 use std::process::ExitCode;

@@ -3,13 +3,13 @@ ghost use Rattle.std.specs.Prelude.{◌≡◌, ◌≤◌, ℕ, IfOk, OnOk};
 ghost use Rattle.script_text.specs.Script.{HasText, script_text};
 ghost use Rattle.script_text.specs.declared.script.Script.{Script};
 ghost use Rattle.vfs_core.specs.Turning.{Runs, IsDone};
-ghost use Rattle.vfs_cli.specs.Output.{IsFor, HasRun, TakesTurns, Outputs, Sums, generated};
+ghost use Rattle.vfs_cli.specs.Output.{IsFor, HasRun, TakesTurns, Sums, generated};
 ghost use Rattle.vfs_cli.specs.declared.words.Turns.{Turns};
 
 use crate::words::Turns;
 use script_text::{Script, gen_script, print_script};
 use std::alloc::{AllocError, Global};
-use trace_text::{print_output, print_summary};
+use trace_text::print_summary;
 use vfs_core::{Job, Kern};
 use vfs_tree::Bytes;
 
@@ -36,32 +36,13 @@ pub fn job_of(alloc: Global, script: Script) -> Result<Job, AllocError>
 }
 
 /// The kernel after all calls of the script. The only fault is want of memory.
-fn run_calls(alloc: Global, script: Script, turns: Turns) -> Result<Kern, AllocError>
+pub fn run_calls(alloc: Global, script: Script, turns: Turns) -> Result<Kern, AllocError>
     requires { HasText script }
     ensures { IfOk result (HasRun turns script) }
 {
     let mut job = job_of(alloc, script)?;
     run_job(alloc, &mut job, turns)?;
     Ok(job.into_kern())
-}
-
-/// The output of a run, by the kernel after all calls. The only fault is want of memory.
-pub fn output_of(alloc: Global, kern: &Kern) -> Result<Bytes, AllocError>
-    ensures { IfOk result (λ text. (turns : Turns) (script : Script) → HasRun turns script kern.now → Outputs turns script text) }
-{
-    let world = kern.world(alloc)?;
-    let mut output = Bytes::new(alloc);
-    print_output(alloc, kern.history(), &world, &mut output)?;
-    Ok(output)
-}
-
-/// The output of a run of the script. The only fault is want of memory.
-pub fn run(alloc: Global, script: Script, turns: Turns) -> Result<Bytes, AllocError>
-    requires { HasText script }
-    ensures { IfOk result (Outputs turns script) }
-{
-    let kern = run_calls(alloc, script, turns)?;
-    output_of(alloc, &kern)
 }
 
 /// The summary of a run of the script that the generator makes of the seed, with its turns by the same seed. The only

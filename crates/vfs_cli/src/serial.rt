@@ -13,8 +13,9 @@ ghost use Rattle.vfs_cli.specs.Words.{serial_command_of, reads};
 ghost use Rattle.vfs_cli.specs.Output.{Ran, Sums, generated};
 ghost use Rattle.vfs_cli.specs.Outcome.{Outcome, Written, Told, WroteFront, bad_text, status_of};
 
-use crate::running::{run, show, sum_up};
+use crate::running::{run_calls, show, sum_up};
 use crate::words::{Command, Turns, serial_command_of};
+use crate::writing::write_run;
 use itoa::Buffer;
 use script_text::{Script, ScriptFault, put_number, read_script};
 use std::alloc::{AllocError, Global};
@@ -115,8 +116,7 @@ pub fn take_script<S: Source, K: Sink>(
     }
 }
 
-/// Reads a script, runs it, and writes its output.
-#[tactic(auto, using(crate::proofs::EndLaws::written_all))]
+/// Reads a script, runs it, and writes its output, once all calls are made.
 fn run_script<S: Source, K: Sink>(
     alloc: Global,
     turns: Turns,
@@ -138,8 +138,8 @@ fn run_script<S: Source, K: Sink>(
         Ok(script) => script,
         Err(ending) => return ending,
     };
-    match run(alloc, script, turns) {
-        Ok(text) => put(sink, text.as_slice()),
+    match run_calls(alloc, script, turns) {
+        Ok(kern) => write_run(alloc, sink, &kern),
         Err(_) => Ending::NoMemory,
     }
 }

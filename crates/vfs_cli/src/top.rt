@@ -1,5 +1,5 @@
 // The program's top call.
-ghost use Rattle.std.specs.Prelude.{◌≡◌, ◌≢◌, ◌⊎◌, ◌↔◌, ◌<◌, ℕ, List, length, true, false, map, string_bytes, [], Some, None, IfOk};
+ghost use Rattle.std.specs.Prelude.{◌≡◌, ◌≢◌, ◌⊎◌, ◌↔◌, ◌<◌, ℕ, List, length, true, false, map, string_bytes, [], Some, None};
 ghost use Rattle.std.specs.Io.KnownBytes.{Consumes, Appends, IsAtEnd};
 ghost use Rattle.vfs_flow.specs.Faults.{Rose};
 ghost use Rattle.script_text.specs.BadLine.{IsBadLine};
@@ -11,36 +11,19 @@ ghost use Rattle.vfs_cli.specs.declared.words.Command.TheVariants.{Run, Gen, Sho
 ghost use Rattle.vfs_cli.specs.declared.words.Turns.{Turns};
 ghost use Rattle.vfs_cli.specs.declared.words.Turns.TheVariants.{Together};
 ghost use Rattle.vfs_cli.specs.Words.{command_of, serial_command_of, reads};
-ghost use Rattle.vfs_cli.specs.Output.{Ran, Outputs, Sums, generated};
+ghost use Rattle.vfs_cli.specs.Output.{Ran, Sums, generated};
 ghost use Rattle.vfs_cli.specs.Outcome.{Outcome, WroteFront, bad_text, status_of};
 
-use crate::running::output_of;
-use crate::serial::{Ending, Status, put, serial_main, status_of, take_script};
+use crate::serial::{Ending, Status, serial_main, status_of, take_script};
 use crate::together::run_together;
 use crate::words::{Command, Turns, command_of};
-use script_text::Script;
-use std::alloc::{AllocError, Global};
+use crate::writing::write_run;
+use std::alloc::Global;
 use std::sync::Wait;
 use std::thread::Threads;
 use vfs_flow::{Gate, Sink, Source};
-use vfs_tree::Bytes;
-
-/// The output of a run of the script with a thread for each caller. The only fault is want of memory.
-fn text_together<R: Threads + Wait + Sync, G: Gate + Sync>(
-    rt: &R,
-    alloc: Global,
-    gate: &G,
-    script: Script,
-) -> Result<Bytes, AllocError>
-    requires { HasText script }
-    ensures { IfOk result (Outputs Together script) }
-{
-    let kern = run_together(rt, alloc, gate, script)?;
-    output_of(alloc, &kern)
-}
 
 /// Reads a script, runs it with a thread for each caller, and writes its output.
-#[tactic(auto, using(crate::proofs::EndLaws::written_all))]
 fn run_threads<R: Threads + Wait + Sync, S: Source, K: Sink, G: Gate + Sync>(
     rt: &R,
     alloc: Global,
@@ -63,8 +46,8 @@ fn run_threads<R: Threads + Wait + Sync, S: Source, K: Sink, G: Gate + Sync>(
         Ok(script) => script,
         Err(ending) => return ending,
     };
-    match text_together(rt, alloc, gate, script) {
-        Ok(text) => put(sink, text.as_slice()),
+    match run_together(rt, alloc, gate, script) {
+        Ok(kern) => write_run(alloc, sink, &kern),
         Err(_) => Ending::NoMemory,
     }
 }

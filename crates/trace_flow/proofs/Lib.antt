@@ -1,0 +1,4 @@
+pub mod MoveLaws
+pub mod EntryLaws
+pub mod NodeLaws
+pub mod OutputLaws
