@@ -1,0 +1,9 @@
+pub mod WriteLaws
+pub mod AboveLaws
+pub mod TurnLaws
+pub mod LeadLaws
+pub mod ShadowLaws
+pub mod FoundNeeds
+pub mod NeedRows
+pub mod NeededShown
+pub mod SeenLaws

@@ -1,0 +1,298 @@
+-- A copy of a file of the lower layer, and the open files that turn to it.
+use Rattle.std.proofs.Common.{◌≡◌, ℕ, suc, Bool, true, false, cond, ◌&&◌, ◌||◌, ◌==◌, List, refl, ap, sym, ◌∙◌, subst, eqb-true}
+use Rattle.std.specs.Prelude.{Option, Some, None, IsSome, IfSome, is_some, option_map, option_and_then}
+use Rattle.std.specs.Str.{bytes_eq}
+use Rattle.std.specs.Cmp.{nat_cmp_total}
+use Rattle.std.specs.FinMap.{get, insert}
+use Rattle.finite_maps.proofs.EntryLaws.{pair_total, get_at-insert}
+use Rattle.vfs_tree.specs.Child.{child_below, child_low, child_union, child_within, child_of, low, low_by, upper_entry}
+use Rattle.vfs_tree.specs.Edits.{made, with_store}
+use Rattle.vfs_tree.specs.Facts.{Facts}
+use Rattle.vfs_tree.specs.Layers.{kind_in, store_by, base, is_cut, is_dir, is_dir_kind, kind_of, is_linked, linked_by, same_place}
+use Rattle.vfs_tree.specs.Nodes.{next_of, entry_in, node_at, AreBelow}
+use Rattle.vfs_tree.specs.Place.{Seen, Mem, Null, UnionUp, UnionLow}
+use Rattle.vfs_tree.specs.Sound.{is_union, IsSound}
+use Rattle.vfs_tree.specs.Views.{kind_of_node, facts_in, dir_in, facts_of}
+use Rattle.vfs_tree.specs.declared.mount.MountKind.{MountKind}
+use Rattle.vfs_tree.specs.declared.mount.MountKind.TheVariants as kind
+use Rattle.vfs_tree.specs.declared.node.NameEntry.{NameEntry}
+use Rattle.vfs_tree.specs.declared.node.NameEntry.TheVariants.{Ino}
+use Rattle.vfs_tree.specs.declared.node.Node.{Node}
+use Rattle.vfs_tree.specs.declared.node.Node.TheVariants.{Dir, File, Link}
+use Rattle.vfs_tree.specs.declared.node.Store.{Store}
+use Rattle.vfs_tree.specs.declared.open.Open.{Open}
+use Rattle.vfs_tree.specs.declared.walk.Child.{Child}
+use Rattle.vfs_tree.specs.declared.walk.Child.TheVariants as child
+use Rattle.vfs_tree.specs.declared.walk.NodeId.{NodeId}
+use Rattle.vfs_tree.specs.declared.world.World.{World}
+use Rattle.call_model.specs.Checks.{node_of}
+use Rattle.call_model.specs.Effects.{turned, turned_open, turned_opens, copy_of, copied_child, effect}
+use Rattle.call_model.specs.declared.entry.Inner.TheVariants.{CopyUp}
+use Rattle.call_laws.specs.Lasting.{IsLasting}
+use Rattle.call_laws.specs.Needing.{IsFree}
+use Rattle.call_laws.proofs.FlagLaws.{get_each}
+use Rattle.call_laws.proofs.FoundLaws.{IsGood, GoodChild, ReadyChild, good-child, ready-within}
+use Rattle.call_laws.proofs.MadeLaws.{IsFresh}
+use Rattle.call_laws.proofs.NamedLaws.{no_way}
+use Rattle.call_laws.proofs.PlaceLaws.{good_view}
+use Rattle.call_laws.proofs.SoundMade.{IsDirAt, dir_at}
+use Rattle.call_laws.proofs.SoundParts.{first_of, second_of, or_none}
+use Rattle.call_laws.proofs.Whole.{IsWhole}
+use Rattle.layer_laws.proofs.LowerLaws.{Stands}
+use Rattle.layer_laws.proofs.MadeStores.{node_new, entry_new}
+use Rattle.layer_laws.proofs.NestLaws.{Under, child_from, nests-lower, child_looking, child_nests}
+use Rattle.need_laws.specs.Turning.{is_seen_over, TurnsTo}
+
+-- ---- places that turn
+
+-- the same place rests on the same node
+one_base : (f : Facts) (p q : Seen) → same_place p q ≡ true → base f p ≡ base f q
+one_base f (Mem m i) (Mem n j) e =
+    let at : ℕ → ℕ → NodeId = λ s i. record { store = s; ino = i } in
+    ap (λ s. at s i) (eqb-true m n (first_of (m == n) (i == j) e)) ∙ ap (at n) (eqb-true i j (second_of (m == n) (i == j) e))
+one_base f (Null m p) (Null n q) e = one_base f p q (second_of (m == n) (same_place p q) e)
+one_base f (UnionUp m i) (UnionUp n j) e =
+    ap (λ m. base f (UnionUp m i)) (eqb-true m n (first_of (m == n) (i == j) e)) ∙ ap (λ i. base f (UnionUp n i)) (eqb-true i j (second_of (m == n) (i == j) e))
+one_base f (UnionLow m u a p) (UnionLow n v b q) e =
+    one_base f p q (second_of (bytes_eq a b) (same_place p q) (second_of (u == v) (bytes_eq a b && same_place p q) (second_of (m == n) ((u == v) && (bytes_eq a b && same_place p q)) e)))
+one_base f _ _ e = no_way e
+
+module _ (m u : ℕ) (n : List ℕ) (q : Seen) (i : ℕ) where
+  abbrev from : Seen
+  from = UnionLow m u n q
+
+  abbrev to : Seen
+  to = UnionUp m i
+
+  -- what is seen over the file is seen over the copy then
+  turned_base : (f : Facts) (p : Seen) → is_seen_over from p ≡ true → base f (turned from to p) ≡ base f to
+  turned_base f (Mem l j) e = no_way e
+  turned_base f (Null l p) e = turned_base f p e
+  turned_base f (UnionUp l j) e = no_way e
+  turned_base f (UnionLow l v a p) e = by (turned_base f p) (same_place from (UnionLow l v a p)) e
+    where
+      by : (is_seen_over from p ≡ true → base f (turned from to p) ≡ base f to) → (b : Bool) → (b || is_seen_over from p) ≡ true → base f (cond b to (UnionLow l v a (turned from to p))) ≡ base f to
+      by more true e = refl
+      by more false e = more e
+
+  -- it was seen over the node that is copied
+  seen_base : (f : Facts) (p : Seen) → is_seen_over from p ≡ true → base f p ≡ base f q
+  seen_base f (Mem l j) e = no_way e
+  seen_base f (Null l p) e = seen_base f p e
+  seen_base f (UnionUp l j) e = no_way e
+  seen_base f (UnionLow l v a p) e = by (seen_base f p) (same_place from (UnionLow l v a p)) refl e
+    where
+      by : (is_seen_over from p ≡ true → base f p ≡ base f q) → (b : Bool) → same_place from (UnionLow l v a p) ≡ b → (b || is_seen_over from p) ≡ true → base f p ≡ base f q
+      by more true is e = sym (one_base f from (UnionLow l v a p) is)
+      by more false is e = more e
+
+  -- what isn't seen over it stays
+  unturned : (p : Seen) → is_seen_over from p ≡ false → turned from to p ≡ p
+  unturned (Mem l j) e = refl
+  unturned (Null l p) e = ap (Null l) (unturned p e)
+  unturned (UnionUp l j) e = refl
+  unturned (UnionLow l v a p) e =
+      let x = or_none (same_place from (UnionLow l v a p)) (is_seen_over from p) e in
+      ap (λ b. cond b to (UnionLow l v a (turned from to p))) x.0 ∙ ap (UnionLow l v a) (unturned p x.1)
+
+-- ---- the copy
+
+fresh_copy : (u : ℕ) (o : Option Node) → IsFresh u (copy_of o)
+fresh_copy u (Some (File bytes)) = tt
+fresh_copy u (Some (Link target)) = tt
+fresh_copy u (Some (Dir parent opaque names)) = tt
+fresh_copy u None = tt
+
+copy_same : (o : Option Node) → is_dir_kind (option_map kind_of_node o) ≡ false → IsSome (option_map kind_of_node o) → Some (copy_of o) ≡ o
+copy_same (Some (File bytes)) plain known = refl
+copy_same (Some (Link target)) plain known = refl
+copy_same (Some (Dir parent opaque names)) plain known = no_way (sym plain)
+copy_same None plain known = no_way known
+
+record HasStore (o : Option Store) : Type 0 where
+  pub store : Store
+  pub at : o ≡ Some store
+
+there_store : (u : ℕ) (o : Option Store) → linked_by (option_and_then (λ (t : Store). dir_in t u) o) ≡ true → HasStore o
+there_store u (Some t) e = record { store = t; at = refl }
+there_store u None e = no_way e
+
+node_there : (t : Store) (u : ℕ) (o : Option Node) → linked_by (option_and_then (facts_in t u) o) ≡ true → IsSome (option_map kind_of_node o)
+node_there t u (Some y) e = refl
+node_there t u None e = no_way e
+
+dir_there : (u : ℕ) (o : Option Store) → linked_by (option_and_then (λ (t : Store). dir_in t u) o) ≡ true → IsSome (option_map kind_of_node (option_and_then (λ (t : Store). get t.nodes u) o))
+dir_there u (Some t) e = node_there t u (get t.nodes u) e
+dir_there u None e = no_way e
+
+module _ (w : World) (h : IsWhole w) (m s top : ℕ) (lower : Seen) (is : kind_in (facts_of w) m ≡ Some (kind.Union s top lower)) (cut : is_cut (facts_of w) m ≡ false)
+    (u : ℕ) (n : List ℕ) (q : Seen) (there : child_of (facts_of w) (UnionUp m u) n ≡ child.At (UnionLow m u n q)) where
+  abbrev f : Facts
+  f = facts_of w
+
+  free : IsFree f m u n
+  free = subst (ReadyChild f) there (ready-within (suc m) f (UnionUp m u) n)
+
+  store_is : store_by (kind_in f m) ≡ s
+  store_is = ap store_by is
+
+  linked_in : is_linked f s u ≡ true
+  linked_in = subst (λ r. is_linked f r u ≡ true) store_is free.linked
+
+  free_in : f.entry s u n ≡ None
+  free_in = subst (λ r. f.entry r u n ≡ None) store_is free.free
+
+  stored : HasStore (get w.stores s)
+  stored = there_store u (get w.stores s) linked_in
+
+  abbrev t : Store
+  t = stored.store
+
+  good_dir : IsGood f (UnionUp m u)
+  good_dir = record {
+    sound = record { mounts = ap is_union is; base = ap (λ (o : Option MountKind). is_some (f.kind (store_by o) u)) is ∙ dir_there u (get w.stores s) linked_in; files = tt };
+    uncut = cut;
+    over = tt;
+    ready = tt;
+  }
+
+  known : IsSome (kind_of f q)
+  known =
+      let c : GoodChild f (good_view w h.sound h.lasts) m (child.At (UnionLow m u n q)) = subst (GoodChild f (good_view w h.sound h.lasts) m) there (good-child f (good_view w h.sound h.lasts) (UnionUp m u) n good_dir) in
+      c.0.sound.base
+
+  -- ---- what the lower layer has there
+
+  abbrev below : Child
+  below = child_below (child_within m f) (low f m u) n
+
+  below_low : child_low f m u n below ≡ child.At (UnionLow m u n q)
+  below_low =
+      sym (ap (λ (e : Option NameEntry). child_union f m u n e (child_below (child_within m f) (low f m u))) (ap (λ (o : Option MountKind). upper_entry f o u n) is ∙ free_in)) ∙ there
+
+  abbrev under : Child → Seen
+  under (child.At (UnionLow a b k p)) = p
+  under (child.At p) = p
+  under child.Absent = q
+  under (child.Need y) = q
+
+  record IsCopied (c : Child) : Type 0 where
+    pub at : c ≡ child.At q
+    pub plain : is_dir f q ≡ false
+
+  copied : (c : Child) → child_low f m u n c ≡ child.At (UnionLow m u n q) → IsCopied c
+  copied (child.At p) e = by (is_dir f p) refl e
+    where
+      by : (b : Bool) → is_dir f p ≡ b → cond b (child.Need (record { mount = m; dir = u; name = n })) (child.At (UnionLow m u n p)) ≡ child.At (UnionLow m u n q) → IsCopied (child.At p)
+      by true d e = absurd (let clash : child.Need (record { mount = m; dir = u; name = n }) ≡ child.At (UnionLow m u n q) = e in cc)
+      by false d e = let same : p ≡ q = ap under e in record { at = ap child.At same; plain = ap (is_dir f) (sym same) ∙ d }
+  copied child.Absent e = absurd (let clash : child.Absent ≡ child.At (UnionLow m u n q) = e in cc)
+  copied (child.Need y) e = absurd (let clash : child.Need y ≡ child.At (UnionLow m u n q) = e in cc)
+
+  is_copied : IsCopied below
+  is_copied = copied below below_low
+
+  same_below : (c : Child) → Stands (Under f m) c → child_below (child_of f) c n ≡ child_below (child_within m f) c n
+  same_below (child.At d) a = sym (child_from f (good_view w h.sound h.lasts) m d n a.0 a.1)
+  same_below child.Absent a = refl
+  same_below (child.Need y) a = refl
+
+  copied_is : child_below (child_of f) (low f m u) n ≡ child.At q
+  copied_is =
+      let view = good_view w h.sound h.lasts in
+      same_below (low f m u) (nests-lower f view (λ k. child_within k f) (child_union f) (child_looking f) (child_within m f) (child_nests f view m) m u cut (kind_in f m) refl) ∙ is_copied.at
+
+  -- ---- the world with the copy
+
+  abbrev node : Node
+  node = copy_of (node_of w q)
+
+  abbrev i : ℕ
+  i = next_of (get w.stores s)
+
+  abbrev new : World
+  new = record w { stores = insert w.stores s (made t u n node) }
+
+  abbrev turns : World
+  turns = turned_opens (UnionLow m u n q) (UnionUp m i) new
+
+  effect_is : (c : ℕ) → effect w c (CopyUp m u n) ≡ turns
+  effect_is c =
+      ap (copied_child w m u n) copied_is
+      ∙ ap (λ (r : ℕ). turned_opens (UnionLow m u n q) (UnionUp m (next_of (get w.stores r))) (with_store (λ t. made t u n node) w r (get w.stores r))) store_is
+      ∙ ap (λ (o : Option Store). turned_opens (UnionLow m u n q) (UnionUp m i) (with_store (λ t. made t u n node) w s o)) stored.at
+
+  number_is : i ≡ t.next
+  number_is = ap next_of stored.at
+
+  numbered : AreBelow t.nodes t.next
+  numbered = subst (λ o. IfSome o (λ t. AreBelow t.nodes t.next)) stored.at (h.lasts.numbered s)
+
+  parts : IsDirAt (get t.nodes u)
+  parts = dir_at t u (get t.nodes u) (sym (ap (λ (o : Option Store). linked_by (option_and_then (λ (t : Store). dir_in t u) o)) stored.at) ∙ linked_in)
+
+  no_name : get parts.names n ≡ None
+  no_name = sym (ap (entry_in n) parts.at) ∙ sym (ap (λ (o : Option Store). entry_in n (option_and_then (λ (t : Store). get t.nodes u) o)) stored.at) ∙ free_in
+
+  store_new : get new.stores s ≡ Some (made t u n node)
+  store_new = get_at-insert nat_cmp_total w.stores s (made t u n node)
+
+  entry_made : (facts_of new).entry s u n ≡ Some (Ino i)
+  entry_made =
+      ap (λ (o : Option Store). entry_in n (option_and_then (λ (t : Store). get t.nodes u) o)) store_new
+      ∙ entry_new t u n node parts.parent parts.opaque parts.names numbered parts.at no_name (fresh_copy u (node_of w q))
+      ∙ sym (ap (λ j. Some (Ino j)) number_is)
+
+  node_made : node_at new s i ≡ Some node
+  node_made =
+      ap (λ (o : Option Store). option_and_then (λ (t : Store). get t.nodes i) o) store_new
+      ∙ ap (get (made t u n node).nodes) number_is
+      ∙ node_new t u n node parts.parent parts.opaque parts.names numbered parts.at no_name (fresh_copy u (node_of w q))
+
+  name_in : child_of (facts_of turns) (UnionUp m u) n ≡ child.At (UnionUp m i)
+  name_in =
+      let g = facts_of new in
+      ap (λ (e : Option NameEntry). child_union g m u n e (child_below (child_within m g) (low_by g (child_within m g) u (kind_in g m)))) (ap (λ (o : Option MountKind). upper_entry g o u n) is ∙ entry_made)
+
+  copy_in : node_of turns (UnionUp m i) ≡ node_of w q
+  copy_in = ap (λ (o : Option MountKind). node_at new (store_by o) i) is ∙ node_made ∙ copy_same (node_of w q) is_copied.plain known
+
+  open_in : (k : ℕ × ℕ) (o : Open) → get w.opens k ≡ Some o → get turns.opens k ≡ Some (record o { place = turned (UnionLow m u n q) (UnionUp m i) o.place })
+  open_in k o at = get_each pair_total (turned_open (UnionLow m u n q) (UnionUp m i)) w.opens k ∙ ap (option_map (turned_open (UnionLow m u n q) (UnionUp m i))) at
+
+  older_in : (k : ℕ × ℕ) (o : Open) → get w.opens k ≡ Some o → is_seen_over (UnionLow m u n q) o.place ≡ true → TurnsTo w turns k o (UnionUp m i)
+  older_in k o at over = record {
+    place = turned (UnionLow m u n q) (UnionUp m i) o.place;
+    at = open_in k o at;
+    base = λ f. turned_base m u n q i f o.place over;
+    same = ap (λ (b : NodeId). node_at turns b.store b.ino) (turned_base m u n q i (facts_of turns) o.place over) ∙ copy_in ∙ sym (ap (λ (b : NodeId). node_at w b.store b.ino) (seen_base m u n q i f o.place over));
+  }
+
+  others_in : (k : ℕ × ℕ) (o : Open) → get w.opens k ≡ Some o → is_seen_over (UnionLow m u n q) o.place ≡ false → get turns.opens k ≡ Some o
+  others_in k o at over = open_in k o at ∙ ap (λ (p : Seen). Some (record o { place = p })) (unturned m u n q i o.place over)
+
+pub copy_name : (w : World) (c m s top u : ℕ) (lower q : Seen) (n : List ℕ) → IsSound w → IsLasting w → kind_in (facts_of w) m ≡ Some (kind.Union s top lower) → is_cut (facts_of w) m ≡ false
+    → child_of (facts_of w) (UnionUp m u) n ≡ child.At (UnionLow m u n q) → child_of (facts_of (effect w c (CopyUp m u n))) (UnionUp m u) n ≡ child.At (UnionUp m (next_of (get w.stores s)))
+copy_name w c m s top u lower q n sound lasts is cut there =
+    let h : IsWhole w = record { sound = sound; lasts = lasts } in
+    subst (λ (v : World). child_of (facts_of v) (UnionUp m u) n ≡ child.At (UnionUp m (next_of (get w.stores s)))) (sym (effect_is w h m s top lower is cut u n q there c)) (name_in w h m s top lower is cut u n q there)
+
+pub copy_node : (w : World) (c m s top u : ℕ) (lower q : Seen) (n : List ℕ) → IsSound w → IsLasting w → kind_in (facts_of w) m ≡ Some (kind.Union s top lower) → is_cut (facts_of w) m ≡ false
+    → child_of (facts_of w) (UnionUp m u) n ≡ child.At (UnionLow m u n q) → node_of (effect w c (CopyUp m u n)) (UnionUp m (next_of (get w.stores s))) ≡ node_of w q
+copy_node w c m s top u lower q n sound lasts is cut there =
+    let h : IsWhole w = record { sound = sound; lasts = lasts } in
+    ap (λ (v : World). node_of v (UnionUp m (next_of (get w.stores s)))) (effect_is w h m s top lower is cut u n q there c) ∙ copy_in w h m s top lower is cut u n q there
+
+pub copy_older : (w : World) (c m s top u : ℕ) (lower q : Seen) (n : List ℕ) (k : ℕ × ℕ) (o : Open) → IsSound w → IsLasting w → kind_in (facts_of w) m ≡ Some (kind.Union s top lower) → is_cut (facts_of w) m ≡ false
+    → child_of (facts_of w) (UnionUp m u) n ≡ child.At (UnionLow m u n q) → get w.opens k ≡ Some o → is_seen_over (UnionLow m u n q) o.place ≡ true
+    → TurnsTo w (effect w c (CopyUp m u n)) k o (UnionUp m (next_of (get w.stores s)))
+copy_older w c m s top u lower q n k o sound lasts is cut there at over =
+    let h : IsWhole w = record { sound = sound; lasts = lasts } in
+    subst (λ (v : World). TurnsTo w v k o (UnionUp m (next_of (get w.stores s)))) (sym (effect_is w h m s top lower is cut u n q there c)) (older_in w h m s top lower is cut u n q there k o at over)
+
+pub copy_others : (w : World) (c m s top u : ℕ) (lower q : Seen) (n : List ℕ) (k : ℕ × ℕ) (o : Open) → IsSound w → IsLasting w → kind_in (facts_of w) m ≡ Some (kind.Union s top lower) → is_cut (facts_of w) m ≡ false
+    → child_of (facts_of w) (UnionUp m u) n ≡ child.At (UnionLow m u n q) → get w.opens k ≡ Some o → is_seen_over (UnionLow m u n q) o.place ≡ false
+    → get (effect w c (CopyUp m u n)).opens k ≡ Some o
+copy_others w c m s top u lower q n k o sound lasts is cut there at over =
+    let h : IsWhole w = record { sound = sound; lasts = lasts } in
+    ap (λ (v : World). get v.opens k) (effect_is w h m s top lower is cut u n q there c) ∙ others_in w h m s top lower is cut u n q there k o at over

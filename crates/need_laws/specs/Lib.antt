@@ -1,0 +1,5 @@
+pub mod Above
+pub mod Changed
+pub mod Turning
+pub mod Lacking
+pub mod Showing
