@@ -13,3 +13,16 @@ pub mod UnionLaws
 pub mod HiddenLaws
 pub mod JoinLaws
 pub mod DeepLaws
+pub mod AgreeLaws
+pub mod NamesLaws
+pub mod BaseLaws
+pub mod VisibleLaws
+pub mod GrowLaws
+pub mod WantLaws
+pub mod WantWalks
+pub mod NeedRows
+pub mod WantRows
+pub mod PartLaws
+pub mod UncutLaws
+pub mod UncutWalks
+pub mod UncutRows

@@ -1,3 +1,4 @@
 pub mod Apart
 pub mod OpenFiles
 pub mod Deepest
+pub mod Listings
