@@ -13,10 +13,10 @@ ghost use Rattle.call_model.specs.Checks as checks;
 ghost use Rattle.plain_checks.specs.Coming.{Edits};
 
 use crate::stop::Stop;
-use plain_edits::{Spot, clear_white, link, make, remove, rename};
+use plain_edits::{Spot, clear_white, link, remove, rename};
 use std::alloc::{AllocError, Global};
 use vfs_paths::base;
-use vfs_tree::{Errno, Name, NameEntry, Node, Place, Store, View, World};
+use vfs_tree::{CountedStore, Errno, Name, NameEntry, Node, Place, View, World};
 
 /// Whether a directory is one of a union.
 pub fn is_in_union(dir: &Place) -> bool
@@ -43,7 +43,7 @@ pub fn has_white(world: &World, dir: &Place, name: &Name) -> bool
 }
 
 /// Makes a node at a name of a directory of a store, and answers its inode number.
-fn make_in(store: &mut Store, dir: u32, name: Name, node: Node) -> Result<u32, Stop>
+fn make_in(store: &mut CountedStore, dir: u32, name: Name, node: Node) -> Result<u32, Stop>
     requires { AreBelow store.old.nodes store.old.next }
     ensures room { OnOk result ((store.old.next == 4294967295) ≡ false) }
     ensures made { OnOk result (store.new ≡ made store.old dir name node) }
@@ -52,12 +52,12 @@ fn make_in(store: &mut Store, dir: u32, name: Name, node: Node) -> Result<u32, S
     ensures err { OnErr result (store.new ≡ store.old) }
     ensures kept { AreBelow store.new.nodes store.new.next }
 {
-    if store.next == 4294967295 {
+    if store.next() == 4294967295 {
         return Err(Stop::Refused {
             errno: Errno::ENOSPC,
         });
     }
-    match make(store, dir, name, node) {
+    match store.make(dir, name, node) {
         Ok(ino) => Ok(ino),
         Err(_) => Err(Stop::NoMemory),
     }

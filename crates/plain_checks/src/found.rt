@@ -15,7 +15,7 @@ fn is_full(world: &World, store: u32) -> bool
     ensures { result ≡ checks.is_full world.now store }
 {
     match world.stores.get(store) {
-        Some(store) => store.next == 4294967295,
+        Some(store) => store.next() == 4294967295,
         None => true,
     }
 }

@@ -9,7 +9,6 @@ ghost use Rattle.plain_checks.specs.Coming.{Answers, Comes};
 use crate::descriptors::descriptor;
 use finite_maps::Duplicate;
 use plain_checks::{Answer, Stop, copied, made, place_at};
-use plain_edits::resize;
 use std::alloc::{AllocError, Global};
 use vfs_paths::{base, is_dir};
 use vfs_tree::{Errno, Found, NodeId, Place, World};
@@ -22,7 +21,7 @@ pub(crate) fn resize_node(world: &mut World, at: NodeId, len: u32) -> Result<(),
     ensures kept { IsNumbered world.new }
 {
     match world.stores.get_mut(at.store) {
-        Some(store) => match resize(store, at.ino, len as usize) {
+        Some(store) => match store.resize(at.ino, len as usize) {
             Ok(()) => Ok(()),
             Err(error) => Err(error),
         },

@@ -167,7 +167,7 @@ fn next_ino(world: &World, store: u32) -> u32
     ensures { result ≡ next_of (map.get world.now.stores store) }
 {
     match world.stores.get(store) {
-        Some(store) => store.next,
+        Some(store) => store.next(),
         None => 0,
     }
 }

@@ -73,7 +73,7 @@ fn write_node(world: &mut World, at: NodeId, offset: u64, bytes: &[u8]) -> Resul
     ensures kept { IsNumbered world.new }
 {
     match world.stores.get_mut(at.store) {
-        Some(store) => match plain_edits::write(store, at.ino, offset as usize, bytes) {
+        Some(store) => match store.write(at.ino, offset as usize, bytes) {
             Ok(()) => Ok(()),
             Err(error) => Err(error),
         },

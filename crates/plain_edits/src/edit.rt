@@ -1,13 +1,12 @@
-ghost use Rattle.std.specs.Prelude.{◌≡◌, ◌<◌, ◌↔◌, IsTrue, IfOk, IsOk, OnOk, OnErr, true, false, if◌then◌else◌};
+ghost use Rattle.std.specs.Prelude.{◌≡◌, ◌↔◌, IsTrue, IsOk, IsSome, OnOk, OnErr, true, false, if◌then◌else◌};
 ghost use Rattle.vfs_tree.specs.Nodes.{AreBelow, is_white};
-ghost use Rattle.vfs_tree.specs.Edits.{made};
-ghost use Rattle.vfs_tree.specs.StoreEdits.{set_entry, clear_entry, drop_entry, removed, renamed_to, renamed};
+ghost use Rattle.vfs_tree.specs.StoreEdits.{entry_of, set_entry, clear_entry, drop_entry, removed, renamed_to, renamed};
+ghost use Rattle.vfs_tree.specs.Undo.{restored};
 ghost use Rattle.vfs_tree.specs.declared.node.NameEntry.TheVariants.{Ino};
 
-use crate::undo::{clear, empty_given, entry_of, move_to, put_entry, refill, restore};
 use finite_maps::Duplicate;
 use std::alloc::{AllocError, Global};
-use vfs_tree::{Name, NameEntry, Node, Store};
+use vfs_tree::{CountedStore, Name, NameEntry};
 
 /// A name of a directory of a store.
 #[derive(Debug, Drop)]
@@ -18,61 +17,38 @@ pub struct Spot {
     pub name: Name,
 }
 
-/// Makes a node under a name of a directory, and answers its number. The only fault is want of memory.
-pub fn make(store: &mut Store, dir: u32, name: Name, node: Node) -> Result<u32, AllocError>
-    requires room { store.old.next < 4294967295 }
-    requires below { AreBelow store.old.nodes store.old.next }
-    ensures made { OnOk result (store.new ≡ made store.old dir name node) }
-    ensures number { IfOk result (λ ino. ino ≡ store.old.next) }
-    ensures err { OnErr result (store.new ≡ store.old) }
-    ensures kept { AreBelow store.new.nodes store.new.next }
-{
-    let ino = store.next;
-    store.nodes.insert(ino, node)?;
-    match put_entry(store, dir, name, NameEntry::Ino { ino }) {
-        Ok(_) => {
-            store.next = ino + 1;
-            Ok(ino)
-        }
-        Err(error) => {
-            store.nodes.remove(ino);
-            Err(error)
-        }
-    }
-}
-
 /// Lets a name of a directory give a node, as link(2). The only fault is want of memory.
-pub fn link(store: &mut Store, dir: u32, name: Name, ino: u32) -> Result<(), AllocError>
+pub fn link(store: &mut CountedStore, dir: u32, name: Name, ino: u32) -> Result<(), AllocError>
     ensures linked { OnOk result (store.new ≡ set_entry store.old dir name (Ino ino)) }
     ensures err { OnErr result (store.new ≡ store.old) }
     ensures kept { AreBelow store.old.nodes store.old.next → AreBelow store.new.nodes store.new.next }
 {
-    match put_entry(store, dir, name, NameEntry::Ino { ino }) {
+    match store.put_entry(dir, name, NameEntry::Ino { ino }) {
         Ok(_) => Ok(()),
         Err(error) => Err(error),
     }
 }
 
 /// Takes the whiteout at a name of a directory away, as undelete(2).
-pub fn clear_white(store: &mut Store, dir: u32, name: &Name)
+pub fn clear_white(store: &mut CountedStore, dir: u32, name: &Name)
     ensures cleared { store.new ≡ clear_entry store.old dir name.now }
     ensures kept { AreBelow store.old.nodes store.old.next → AreBelow store.new.nodes store.new.next }
 {
-    clear(store, dir, name);
+    store.clear(dir, name);
 }
 
 /// Drops a name of a directory: the entry goes, or becomes a whiteout where that is said. The only fault is want of
 /// memory for a whiteout.
-fn drop_name(store: &mut Store, dir: u32, name: Name, white: bool) -> Result<(), AllocError>
+fn drop_name(store: &mut CountedStore, dir: u32, name: Name, white: bool) -> Result<(), AllocError>
     ensures ok { OnOk result (store.new ≡ drop_entry white store.old dir name) }
     ensures plain { white ≡ false → IsOk result }
     ensures err { OnErr result (store.new ≡ store.old) }
 {
     if !white {
-        clear(store, dir, &name);
+        store.clear(dir, &name);
         return Ok(());
     }
-    match put_entry(store, dir, name, NameEntry::White) {
+    match store.put_entry(dir, name, NameEntry::White) {
         Ok(_) => Ok(()),
         Err(error) => Err(error),
     }
@@ -82,7 +58,7 @@ fn drop_name(store: &mut Store, dir: u32, name: Name, white: bool) -> Result<(),
 /// and a directory that it gave loses its whiteouts. The only fault is want of memory for a whiteout.
 pub fn remove(
     alloc: Global,
-    store: &mut Store,
+    store: &mut CountedStore,
     dir: u32,
     name: Name,
     white: bool,
@@ -92,12 +68,12 @@ pub fn remove(
     ensures err { OnErr result (store.new ≡ store.old) }
     ensures kept { AreBelow store.old.nodes store.old.next → AreBelow store.new.nodes store.new.next }
 {
-    let given = entry_of(store, dir, &name);
-    let taken = empty_given(alloc, store, given);
+    let given = store.entry_of(dir, &name);
+    let taken = store.empty_given(alloc, given);
     match drop_name(store, dir, name, white) {
         Ok(()) => Ok(()),
         Err(error) => {
-            refill(store, taken);
+            store.refill(taken);
             Err(error)
         }
     }
@@ -110,10 +86,21 @@ fn is_same(left: &Spot, right: &Spot) -> bool
     left.dir == right.dir && left.name == right.name
 }
 
+/// Gives a name of a directory back what it had, without memory.
+fn restore(store: &mut CountedStore, dir: u32, name: &Name, before: Option<NameEntry>)
+    requires { IsSome before → IsSome (entry_of store.old dir name.now) }
+    ensures { store.new ≡ restored store.old dir name.now before }
+{
+    match before {
+        Some(entry) => store.replace_entry(dir, name, entry),
+        None => store.clear(dir, name),
+    }
+}
+
 /// Puts a whiteout at a name and lets another give the node. The only fault is want of memory.
 fn shift_white(
     alloc: Global,
-    store: &mut Store,
+    store: &mut CountedStore,
     from: Spot,
     to: Spot,
     ino: u32,
@@ -122,8 +109,8 @@ fn shift_white(
     ensures err { OnErr result (store.new ≡ store.old) }
 {
     let old = from.name.duplicate(alloc)?;
-    let before = put_entry(store, from.dir, from.name, NameEntry::White)?;
-    match put_entry(store, to.dir, to.name, NameEntry::Ino { ino }) {
+    let before = store.put_entry(from.dir, from.name, NameEntry::White)?;
+    match store.put_entry(to.dir, to.name, NameEntry::Ino { ino }) {
         Ok(_) => Ok(()),
         Err(error) => {
             restore(store, from.dir, &old, before);
@@ -133,21 +120,21 @@ fn shift_white(
 }
 
 /// Takes a name away, unless it is said to stay.
-fn clear_unless(store: &mut Store, stays: bool, dir: u32, name: &Name)
+fn clear_unless(store: &mut CountedStore, stays: bool, dir: u32, name: &Name)
     ensures { store.new ≡ (if stays then store.old else clear_entry store.old dir name.now) }
 {
     if !stays {
-        clear(store, dir, name);
+        store.clear(dir, name);
     }
 }
 
 /// Takes a name away and lets another give the node. The only fault is want of memory.
-fn shift_plain(store: &mut Store, from: Spot, to: Spot, ino: u32) -> Result<(), AllocError>
+fn shift_plain(store: &mut CountedStore, from: Spot, to: Spot, ino: u32) -> Result<(), AllocError>
     ensures ok { OnOk result (store.new ≡ set_entry (drop_entry false store.old from.dir from.name) to.dir to.name (Ino ino)) }
     ensures err { OnErr result (store.new ≡ store.old) }
 {
     let same = is_same(&from, &to);
-    match put_entry(store, to.dir, to.name, NameEntry::Ino { ino }) {
+    match store.put_entry(to.dir, to.name, NameEntry::Ino { ino }) {
         Ok(_) => {
             clear_unless(store, same, from.dir, &from.name);
             Ok(())
@@ -159,7 +146,7 @@ fn shift_plain(store: &mut Store, from: Spot, to: Spot, ino: u32) -> Result<(), 
 /// Drops a name and lets another give the node. The only fault is want of memory.
 fn shift(
     alloc: Global,
-    store: &mut Store,
+    store: &mut CountedStore,
     from: Spot,
     to: Spot,
     ino: u32,
@@ -178,7 +165,7 @@ fn shift(
 /// Drops the first name, and lets the second give what the first gave. The only fault is want of memory.
 fn rename_given(
     alloc: Global,
-    store: &mut Store,
+    store: &mut CountedStore,
     from: Spot,
     to: Spot,
     given: Option<NameEntry>,
@@ -192,7 +179,7 @@ fn rename_given(
     match given {
         Some(NameEntry::Ino { ino }) => {
             shift(alloc, store, from, to, ino, white)?;
-            move_to(store, ino, dir, hides);
+            store.move_to(ino, dir, hides);
             Ok(())
         }
         Some(NameEntry::White) => drop_name(store, from.dir, from.name, white),
@@ -216,7 +203,7 @@ fn is_white(entry: Option<NameEntry>) -> bool
 /// whiteout stood at the second name. The only fault is want of memory.
 pub fn rename(
     alloc: Global,
-    store: &mut Store,
+    store: &mut CountedStore,
     from: Spot,
     to: Spot,
     white: bool,
@@ -226,14 +213,14 @@ pub fn rename(
     ensures err { OnErr result (store.new ≡ store.old) }
     ensures kept { AreBelow store.old.nodes store.old.next → AreBelow store.new.nodes store.new.next }
 {
-    let given = entry_of(store, from.dir, &from.name);
-    let target = entry_of(store, to.dir, &to.name);
+    let given = store.entry_of(from.dir, &from.name);
+    let target = store.entry_of(to.dir, &to.name);
     let hides = opaque || is_white(target);
-    let taken = empty_given(alloc, store, target);
+    let taken = store.empty_given(alloc, target);
     match rename_given(alloc, store, from, to, given, white, hides) {
         Ok(()) => Ok(()),
         Err(error) => {
-            refill(store, taken);
+            store.refill(taken);
             Err(error)
         }
     }

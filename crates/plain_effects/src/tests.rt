@@ -22,7 +22,7 @@ fn has_number(world: &World, mount: u32) -> bool
     ensures { result ≡ true → checks.is_full world.now (checks.upper_store world.now mount) ≡ false }
 {
     match world.stores.get(upper_store(world, mount)) {
-        Some(store) => store.next != u32::MAX,
+        Some(store) => store.next() != u32::MAX,
         None => false,
     }
 }

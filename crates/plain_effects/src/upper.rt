@@ -6,14 +6,13 @@ ghost use Rattle.vfs_tree.specs.Nodes.{AreBelow, IsNumbered, next_of};
 ghost use Rattle.call_model.specs.Checks.{is_full, upper_store};
 ghost use Rattle.call_model.specs.Effects.{made_above};
 
-use plain_edits::make;
 use std::alloc::AllocError;
 use vfs_paths::upper_store;
-use vfs_tree::{Name, Node, Store, World};
+use vfs_tree::{CountedStore, Name, Node, World};
 
 /// Makes a node at a name of a directory of a store that has a number left, and answers its inode number. The only fault
 /// is want of memory.
-fn make_in(store: &mut Store, dir: u32, name: Name, node: Node) -> Result<u32, AllocError>
+fn make_in(store: &mut CountedStore, dir: u32, name: Name, node: Node) -> Result<u32, AllocError>
     requires room { (store.old.next == 4294967295) ≡ false }
     requires below { AreBelow store.old.nodes store.old.next }
     ensures made { OnOk result (store.new ≡ made store.old dir name node) }
@@ -23,8 +22,8 @@ fn make_in(store: &mut Store, dir: u32, name: Name, node: Node) -> Result<u32, A
     ensures kept { AreBelow store.new.nodes store.new.next }
 {
     // That a number which was read fits its type tells with `room` that it is below the last one.
-    let _next = store.next;
-    make(store, dir, name, node)
+    let _next = store.next();
+    store.make(dir, name, node)
 }
 
 /// Makes a node at a name of a directory in the upper layer of a union, whose store has a number left, and answers its

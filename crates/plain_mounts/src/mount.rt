@@ -10,7 +10,7 @@ use finite_maps::{Duplicate, NumberMap};
 use plain_checks::{Answer, Stop, dir_at, made};
 use std::alloc::{AllocError, Global};
 use vfs_paths::{depth, has_store};
-use vfs_tree::{Errno, Found, Mount, MountKind, NodeId, Place, Store, View, World};
+use vfs_tree::{CountedStore, Errno, Found, Mount, MountKind, NodeId, Place, View, World};
 
 /// ENFILE where there may be no mount more, leaving ones counted; ENOSPC where no number is left for it.
 #[tactic(auto, using(plain_checks::proofs::Binding::stops, plain_checks::proofs::Binding::goes))]
@@ -54,7 +54,7 @@ fn add_mount(world: &mut World, kind: MountKind, on: Place) -> Result<(), AllocE
 }
 
 /// Puts back what stood at a number at which there is a store now. It needs no memory.
-fn put_back(stores: &mut NumberMap<Store>, number: u32, before: Option<Store>)
+fn put_back(stores: &mut NumberMap<CountedStore>, number: u32, before: Option<CountedStore>)
     requires { IsSome (map.get stores.old number) }
     ensures { stores.new ≡ with_value stores.old number before }
 {
@@ -77,7 +77,7 @@ fn add_mem(alloc: Global, world: &mut World, on: Place) -> Result<(), AllocError
     ensures kept { IsNumbered world.new }
 {
     let number = world.next_mount;
-    let store = Store::new(alloc)?;
+    let store = CountedStore::new(alloc)?;
     let before = world.stores.insert(number, store)?;
     match add_mount(world, MountKind::Mem, on) {
         Ok(()) => Ok(()),

@@ -3,10 +3,13 @@ ghost use Rattle.vfs_tree.specs.Nodes.{IsNumbered};
 
 use super::*;
 use call_model::{Inner, Ref, Reply};
+use finite_maps::NumberMap;
 use plain_checks::{Answer, Stop};
 use std::alloc::{AllocError, Global};
 use std::test::Fail;
-use vfs_tree::{Bytes, Cwd, Errno, Found, Limits, Mode, Node, NodeId, Open, Place, World};
+use vfs_tree::{
+    Bytes, CountedStore, Cwd, Errno, Found, Limits, Mode, Node, NodeId, Open, Place, Store, World,
+};
 
 fn at(place: Place) -> Found {
     Found::At { place }
@@ -145,12 +148,13 @@ fn the_deepest_is_the_first(rt: HostRuntime) -> Result<(), Fail> {
 fn a_file_is_revoked(rt: HostRuntime) -> Result<(), Fail> {
     let alloc = rt.alloc();
     let mut world = World::start(alloc, Limits::DEFAULT)?;
-    if let Some(store) = world.stores.get_mut(0) {
-        let file = Node::File {
-            bytes: Bytes::new(alloc),
-        };
-        store.nodes.insert(2, file)?;
-    }
+    let mut nodes = NumberMap::new(alloc);
+    let file = Node::File {
+        bytes: Bytes::new(alloc),
+    };
+    nodes.insert(2, file)?;
+    let store = Store { nodes, next: 3 };
+    world.stores.insert(0, CountedStore::of(alloc, store))?;
     world.opens.insert((1, 3), open_at(Place::mem(0, 2)))?;
     let next = revoke(&world, at(Place::mem(0, 2)));
     assert!(rt; dooms(&next, Ref::Fd { caller: 1, fd: 3 }));

@@ -7,7 +7,7 @@ use finite_maps::NumberMap;
 use std::alloc::Global;
 use trace_text::{given_by, put_mount, put_shown};
 use vfs_flow::Sink;
-use vfs_tree::{Mount, MountKind, Store, World};
+use vfs_tree::{CountedStore, Mount, MountKind, Store, World};
 
 /// Writes the lines of a store's nodes, by way of the buffer.
 fn write_store<K: Sink>(
@@ -31,7 +31,7 @@ fn write_tree<K: Sink>(
     alloc: Global,
     sink: &mut K,
     buffer: &mut Vec<u8>,
-    stores: &NumberMap<Store>,
+    stores: &NumberMap<CountedStore>,
     number: u32,
     mount: &Mount,
 ) -> Result<(), Halt>
@@ -39,7 +39,7 @@ fn write_tree<K: Sink>(
 {
     put_mount(buffer, number, mount)?;
     match (&mount.kind, stores.get(number)) {
-        (MountKind::Mem, Some(store)) => write_store(alloc, sink, buffer, store),
+        (MountKind::Mem, Some(store)) => write_store(alloc, sink, buffer, store.store()),
         _ => pass(sink, buffer),
     }
 }

@@ -5,8 +5,8 @@ use finite_maps::NumberMap;
 use std::alloc::{AllocError, Global};
 use std::test::Fail;
 use vfs_tree::{
-    Bytes, Errno, Kind, Limits, Mount, MountKind, Name, NameEntry, NameList, NameMap, Node, Place,
-    Store, World,
+    Bytes, CountedStore, Errno, Kind, Limits, Mount, MountKind, Name, NameEntry, NameList, NameMap,
+    Node, Place, Store, World,
 };
 
 fn bytes(alloc: Global, text: &[u8]) -> Result<Bytes, AllocError> {
@@ -94,7 +94,8 @@ fn a_run_prints_its_history_and_its_trees(rt: HostRuntime) -> Result<(), Fail> {
     nodes.insert(1, directory(alloc, 1, false, &[(b"a", 2)])?)?;
     nodes.insert(2, directory(alloc, 1, false, &[])?)?;
     let mut world = World::start(alloc, Limits::DEFAULT)?;
-    world.stores.insert(0, Store { nodes, next: 3 })?;
+    let store = Store { nodes, next: 3 };
+    world.stores.insert(0, CountedStore::of(alloc, store))?;
     let mut out = Bytes::new(alloc);
     print_output(alloc, &history, &world, &mut out)?;
     let wanted =
@@ -118,7 +119,7 @@ fn a_run_is_put_together_of_its_parts(rt: HostRuntime) -> Result<(), Fail> {
     let on = Place::mem(0, 4);
     put_mount(&mut out, 1, &mounted(1, MountKind::Mem, on, false))?;
     let store = upper_store(alloc)?;
-    let given = given_by(alloc, &store)?;
+    let given = given_by(alloc, store.store())?;
     for ino in [1, 2, 3] {
         put_shown(&mut out, &given, ino, &directory(alloc, 1, true, &[])?)?;
     }
@@ -218,7 +219,7 @@ fn each_entry_has_its_line(rt: HostRuntime) -> Result<(), Fail> {
     Ok(())
 }
 
-fn root_store(alloc: Global) -> Result<Store, Fail> {
+fn root_store(alloc: Global) -> Result<CountedStore, Fail> {
     let mut nodes = NumberMap::new(alloc);
     let names = [
         (b"up".as_slice(), 4),
@@ -242,15 +243,15 @@ fn root_store(alloc: Global) -> Result<Store, Fail> {
             bytes: given_by_nothing,
         },
     )?;
-    Ok(Store { nodes, next: 8 })
+    Ok(CountedStore::of(alloc, Store { nodes, next: 8 }))
 }
 
-fn upper_store(alloc: Global) -> Result<Store, Fail> {
+fn upper_store(alloc: Global) -> Result<CountedStore, Fail> {
     let mut nodes = NumberMap::new(alloc);
     let names = [(b"f".as_slice(), 0), (b"d".as_slice(), 2)];
     nodes.insert(1, directory(alloc, 1, false, &names)?)?;
     nodes.insert(2, directory(alloc, 1, true, &[])?)?;
-    Ok(Store { nodes, next: 3 })
+    Ok(CountedStore::of(alloc, Store { nodes, next: 3 }))
 }
 
 fn mounted_world(alloc: Global) -> Result<World, Fail> {

@@ -8,7 +8,7 @@ use crate::mount::put_mount;
 use crate::node::put_node;
 use finite_maps::NumberMap;
 use std::alloc::{AllocError, Global};
-use vfs_tree::{Mount, MountKind, NameEntry, NameMap, Node, Store, World};
+use vfs_tree::{CountedStore, Mount, MountKind, NameEntry, NameMap, Node, Store, World};
 
 fn add_names(given: &mut NumberMap<()>, names: &NameMap<NameEntry>) -> Result<(), AllocError>
     ensures { OnOk result ((ino : ℕ) → is_some (get given.new ino) ≡ (is_some (get given.old ino) || list_any (λ e. is_of ino e.1) (entries names.now))) }
@@ -70,7 +70,7 @@ fn put_store(alloc: Global, out: &mut Vec<u8>, store: &Store) -> Result<(), Allo
 fn put_tree(
     alloc: Global,
     out: &mut Vec<u8>,
-    stores: &NumberMap<Store>,
+    stores: &NumberMap<CountedStore>,
     number: u32,
     mount: &Mount,
 ) -> Result<(), AllocError>
@@ -78,7 +78,7 @@ fn put_tree(
 {
     put_mount(out, number, mount)?;
     match (&mount.kind, stores.get(number)) {
-        (MountKind::Mem, Some(store)) => put_store(alloc, out, store),
+        (MountKind::Mem, Some(store)) => put_store(alloc, out, store.store()),
         _ => Ok(()),
     }
 }

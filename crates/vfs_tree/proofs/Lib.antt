@@ -1,3 +1,10 @@
 pub mod ByteLaws
-pub mod LinkLaws
 pub mod StartLaws
+pub mod BelowLaws
+pub mod NodeLaws
+pub mod StoreLaws
+pub mod Totals
+pub mod CountLaws
+pub mod NameCountLaws
+pub mod StoreCountLaws
+pub mod OwnNameLaws

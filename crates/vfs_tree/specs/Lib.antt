@@ -24,3 +24,7 @@ pub mod FileEdits
 pub mod Carriers
 pub mod Shown
 pub mod Sound
+pub mod Undo
+pub mod StoreCode
+pub mod Counts
+pub mod NameCounts

@@ -6,16 +6,20 @@
 #![tactic(auto)]
 
 mod bytes;
+mod counted_store;
 mod covering;
 mod errno;
 mod limits;
 mod links;
 mod mount;
 mod name;
+mod name_counts;
 mod name_map;
 mod node;
+mod node_edits;
 mod open;
 mod place;
+mod store_edits;
 #[cfg(test)]
 mod tests;
 mod view;
@@ -24,6 +28,7 @@ mod world;
 mod world_view;
 
 pub use bytes::{ByteBuffer, Bytes};
+pub use counted_store::CountedStore;
 pub use errno::{Errno, errno_number, errno_text};
 pub use limits::Limits;
 pub use mount::{Mount, MountKind};
@@ -33,6 +38,7 @@ pub use node::{Kind, NameEntry, Node, Store};
 pub use open::{Cwd, Mode, Open};
 pub use place::{Place, View};
 pub use std::alloc::AllocError as NoMemory;
+pub use store_edits::Taken;
 pub use view::{DirFacts, NameView};
 pub use walk::{Child, Component, Found, Leaf, Need, NodeId, Step};
 pub use world::World;

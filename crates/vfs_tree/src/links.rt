@@ -1,16 +1,27 @@
 // Which names give a node.
-ghost use Rattle.std.specs.Prelude.{◌≡◌, true, IsTrue};
+ghost use Rattle.std.specs.Prelude.{◌≡◌, true, IsTrue, Some};
 ghost use Rattle.std.specs.List.{list_any};
 ghost use Rattle.std.specs.Option.{option_copied};
 ghost use Rattle.std.specs.FinMap as map;
+ghost use Rattle.vfs_tree.specs.Nodes.{is_dir_node};
+ghost use Rattle.vfs_tree.specs.Counts.{gives_node, gives_some};
 ghost use Rattle.vfs_tree.specs.Views.{gives, gives_in, is_named_in, is_linked_in, name_in, name_by, dir_in, dir_name};
 
 use crate::name::Name;
 use crate::name_map::NameMap;
 use crate::node::{NameEntry, Node, Store};
-use crate::view::DirFacts;
 
 impl NameEntry {
+    /// Whether it gives a node.
+    pub fn is_given(&self) -> bool
+        ensures { result ≡ gives_node self.now }
+    {
+        match self {
+            NameEntry::Ino { .. } => true,
+            NameEntry::White => false,
+        }
+    }
+
     /// Whether it gives the inode.
     pub fn gives(&self, ino: u32) -> bool
         ensures { result ≡ gives ino self.now }
@@ -48,7 +59,43 @@ impl NameMap<NameEntry> {
     }
 }
 
+impl NameMap<NameEntry> {
+    /// Whether one of the names gives a node.
+    pub fn gives_some(&self) -> bool
+        ensures { result ≡ list_any gives_node (map.values self.now) }
+    {
+        for (_name, entry) in self.iter() {
+            if entry.is_given() {
+                return true;
+            }
+        }
+        false
+    }
+}
+
 impl Node {
+    /// Whether it is a directory.
+    pub fn is_dir(&self) -> bool
+        ensures { result ≡ is_dir_node (Some self.now) }
+    {
+        match self {
+            Node::Dir { .. } => true,
+            Node::File { .. } => false,
+            Node::Link { .. } => false,
+        }
+    }
+
+    /// Whether it is a directory one of whose names gives a node.
+    pub fn gives_some(&self) -> bool
+        ensures { result ≡ gives_some self.now }
+    {
+        match self {
+            Node::Dir { names, .. } => names.gives_some(),
+            Node::File { .. } => false,
+            Node::Link { .. } => false,
+        }
+    }
+
     /// Whether it is a directory one of whose names gives the inode.
     pub fn gives(&self, ino: u32) -> bool
         ensures { result ≡ gives_in ino self.now }
@@ -62,6 +109,18 @@ impl Node {
 }
 
 impl Store {
+    /// Whether a directory has the inode number.
+    pub fn has_dir(&self, ino: u32) -> bool
+        ensures { result ≡ is_dir_node (map.get self.now.nodes ino) }
+    {
+        match self.nodes.get(ino) {
+            Some(Node::Dir { .. }) => true,
+            Some(Node::File { .. }) => false,
+            Some(Node::Link { .. }) => false,
+            None => false,
+        }
+    }
+
     /// Whether some name of the store gives the inode. It looks at each name.
     pub fn is_named(&self, ino: u32) -> bool
         ensures { result ≡ is_named_in self.now ino }
@@ -72,40 +131,6 @@ impl Store {
             }
         }
         false
-    }
-
-    /// Whether a name of that node gives the inode.
-    fn names_at(&self, dir: u32, ino: u32) -> bool
-        ensures { IsTrue result → is_named_in self.now ino ≡ true }
-    {
-        match self.nodes.get(dir) {
-            Some(node) => node.gives(ino),
-            None => false,
-        }
-    }
-
-    /// Whether the inode is the root, or some name of the store gives it. Where a name of `parent` does, no other node
-    /// is looked at.
-    pub fn is_linked(&self, ino: u32, parent: u32) -> bool
-        ensures { result ≡ is_linked_in self.now ino }
-    {
-        ino == 1 || self.names_at(parent, ino) || self.is_named(ino)
-    }
-
-    /// What is to be known of a directory. `None` comes exactly where there is no directory.
-    pub fn dir(&self, ino: u32) -> Option<DirFacts>
-        ensures { result ≡ dir_in self.now ino }
-    {
-        match self.nodes.get(ino) {
-            Some(Node::Dir { parent, opaque, .. }) => Some(DirFacts {
-                parent: *parent,
-                opaque: *opaque,
-                linked: self.is_linked(ino, *parent),
-            }),
-            Some(Node::File { .. }) => None,
-            Some(Node::Link { .. }) => None,
-            None => None,
-        }
     }
 
     /// The first name that gives the inode in the directory.

@@ -112,3 +112,77 @@ fn what_is_no_name(rt: HostRuntime) {
         assert_eq!(rt; name(alloc, bytes).err(), Some(NameFault::Bad));
     }
 }
+
+/// The bytes of a regular file.
+fn bytes_at(store: &CountedStore, ino: u32) -> Option<&[u8]> {
+    match store.node(ino) {
+        Some(Node::File { bytes }) => Some(bytes.as_slice()),
+        _ => None,
+    }
+}
+
+#[test]
+fn bytes_of_a_file(rt: HostRuntime) -> Result<(), Fail> {
+    let alloc = rt.alloc();
+    let mut store = CountedStore::new(alloc)?;
+    let file = Node::File {
+        bytes: Bytes::new(alloc),
+    };
+    let ino = store.make(1, Name::new(alloc, b"file")?, file)?;
+    store.write(ino, 2, b"ab")?;
+    assert_eq!(rt; bytes_at(&store, ino), Some(b"\0\0ab".as_slice()));
+    store.resize(ino, 3)?;
+    assert_eq!(rt; bytes_at(&store, ino), Some(b"\0\0a".as_slice()));
+    store.resize(ino, 4)?;
+    assert_eq!(rt; bytes_at(&store, ino), Some(b"\0\0a\0".as_slice()));
+    Ok(())
+}
+
+/// A directory without names.
+fn empty_directory(alloc: Global) -> Node {
+    Node::Dir {
+        parent: 1,
+        opaque: false,
+        names: NameMap::new(alloc),
+    }
+}
+
+/// What is to be known of a directory of the root that isn't opaque.
+fn facts(linked: bool) -> Option<DirFacts> {
+    Some(DirFacts {
+        parent: 1,
+        opaque: false,
+        linked,
+    })
+}
+
+#[test]
+fn names_of_a_directory(rt: HostRuntime) -> Result<(), Fail> {
+    let alloc = rt.alloc();
+    let mut store = CountedStore::new(alloc)?;
+    let first = Name::new(alloc, b"first")?;
+    let ino = store.make(1, Name::new(alloc, b"first")?, empty_directory(alloc))?;
+    assert_eq!(rt; store.name_of(ino), Some(&first));
+    assert!(rt; store.is_linked(ino));
+    store.put_entry(1, Name::new(alloc, b"second")?, NameEntry::Ino { ino })?;
+    store.clear(1, &first);
+    assert_eq!(rt; store.name_of(ino), Some(&Name::new(alloc, b"second")?));
+    assert_eq!(rt; store.dir(ino), facts(true));
+    store.clear(1, &Name::new(alloc, b"second")?);
+    assert_eq!(rt; store.name_of(ino), None);
+    assert_eq!(rt; store.dir(ino), facts(false));
+    assert!(rt; store.is_linked(1) && !store.is_named(1));
+    Ok(())
+}
+
+#[test]
+fn names_that_nothing_counted(rt: HostRuntime) -> Result<(), Fail> {
+    let alloc = rt.alloc();
+    let mut counted = CountedStore::new(alloc)?;
+    let ino = counted.make(1, Name::new(alloc, b"name")?, empty_directory(alloc))?;
+    let store = CountedStore::of(alloc, counted.store().duplicate(alloc)?);
+    assert_eq!(rt; store.name_of(ino), Some(&Name::new(alloc, b"name")?));
+    assert_eq!(rt; store.dir(ino), facts(true));
+    assert!(rt; !store.is_named(ino + 1));
+    Ok(())
+}

@@ -2,6 +2,7 @@ ghost use Rattle.std.specs.Prelude.{◌≡◌, ◌<◌, IfOk};
 ghost use Rattle.vfs_tree.specs.Nodes.{AreBelow, IsNumbered};
 ghost use Rattle.vfs_tree.specs.Start.{empty_store, root_mount, root_cwds, start_world};
 
+use crate::counted_store::CountedStore;
 use crate::limits::Limits;
 use crate::mount::{Mount, MountKind};
 use crate::name_map::NameMap;
@@ -15,7 +16,7 @@ use std::alloc::{AllocError, Global};
 #[derive(Debug, Drop)]
 pub struct World {
     /// The stores of the memory file systems by mount number. None is ever forgotten.
-    pub stores: NumberMap<Store>,
+    pub stores: NumberMap<CountedStore>,
     /// The mounts by number.
     pub mounts: NumberMap<Mount>,
     /// The open files and directories by caller and descriptor.
@@ -69,7 +70,7 @@ fn root_world(alloc: Global, limits: Limits) -> Result<World, AllocError>
     ensures { IfOk result (λ world. world ≡ start_world limits) }
 {
     let mut stores = NumberMap::new(alloc);
-    stores.insert(0, Store::new(alloc)?)?;
+    stores.insert(0, CountedStore::new(alloc)?)?;
     let root = Mount {
         number: 0,
         kind: MountKind::Mem,

@@ -33,7 +33,7 @@ impl World {
         ensures { option_copied result ≡ node_at self.now store ino }
     {
         match self.stores.get(store) {
-            Some(store) => store.nodes.get(ino),
+            Some(store) => store.node(ino),
             None => None,
         }
     }

@@ -1,4 +1,4 @@
-use Rattle.plain_edits.proofs.BelowLaws.{kept_at, below-clear}
+use Rattle.vfs_tree.proofs.BelowLaws.{kept_at, below-clear}
 use Rattle.plain_edits.proofs.edit.clear_white.Goals as goal
 
 pub returns-clause-kept : goal.returns-clause-kept

@@ -1,4 +1,4 @@
-use Rattle.plain_edits.proofs.BelowLaws.{kept_at, below-set}
+use Rattle.vfs_tree.proofs.BelowLaws.{kept_at, below-set}
 use Rattle.plain_edits.proofs.edit.link.Goals as goal
 
 pub returns-in-Ok-clause-kept : goal.returns-in-Ok-clause-kept

@@ -1,4 +1,4 @@
-use Rattle.plain_edits.proofs.BelowLaws.{kept-removed}
+use Rattle.vfs_tree.proofs.BelowLaws.{kept-removed}
 use Rattle.plain_edits.proofs.edit.remove.Goals as goal
 
 pub returns-in-Ok-clause-kept : goal.returns-in-Ok-clause-kept

@@ -1,4 +1,4 @@
-use Rattle.plain_edits.proofs.BelowLaws.{kept-renamed}
+use Rattle.vfs_tree.proofs.BelowLaws.{kept-renamed}
 use Rattle.plain_edits.proofs.edit.rename.Goals as goal
 
 pub returns-in-Ok-clause-kept : goal.returns-in-Ok-clause-kept

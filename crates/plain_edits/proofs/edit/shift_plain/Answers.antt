@@ -1,6 +1,6 @@
 use Rattle.std.proofs.Common.{ap, ◌∙◌, cond}
 use Rattle.vfs_tree.specs.StoreEdits.{clear_entry}
-use Rattle.plain_edits.proofs.StoreLaws.{shifted}
+use Rattle.vfs_tree.proofs.StoreLaws.{shifted}
 use Rattle.plain_edits.proofs.edit.shift_plain.Goals as goal
 
 pub returns-in-Ok-clause-ok : goal.returns-in-Ok-clause-ok

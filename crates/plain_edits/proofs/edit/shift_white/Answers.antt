@@ -1,4 +1,4 @@
-use Rattle.plain_edits.proofs.StoreLaws.{put_back, put_there}
+use Rattle.vfs_tree.proofs.StoreLaws.{put_back, put_there}
 use Rattle.plain_edits.proofs.edit.shift_white.Goals as goal
 
 pub restore-requires : goal.restore-requires

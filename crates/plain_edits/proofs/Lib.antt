@@ -1,3 +1,0 @@
-pub mod BelowLaws
-pub mod NodeLaws
-pub mod StoreLaws
