@@ -60,7 +60,7 @@ impl Dir {
         ensures reads { self.new.reads ≡ min (self.old.reads + 1) (2 ^ 64 - 1) }
     {
         self.reads = self.reads.saturating_add(1);
-        blocks::find(&self.blocks, name)
+        self.peek(name)
     }
 
     /// What the name gives, for an edit that changes it next: the count of records read stays.

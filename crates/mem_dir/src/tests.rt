@@ -42,6 +42,22 @@ fn each_call(rt: HostRuntime) -> Result<(), Fail> {
     Ok(())
 }
 
+#[test]
+fn names_that_are_copied_and_cleared(rt: HostRuntime) -> Result<(), Fail> {
+    let alloc = rt.alloc();
+    let mut dir = Dir::new(alloc);
+    let name = name_of(alloc, 5)?;
+    dir.reserve(alloc)?;
+    dir.insert(name_of(alloc, 5)?, NameEntry::Ino { ino: 2 });
+    assert_eq!(rt; dir.peek(&name), Some(NameEntry::Ino { ino: 2 }));
+    let copy = dir.copy(alloc)?;
+    dir.clear();
+    assert_eq!(rt; dir.peek(&name), None);
+    assert_eq!(rt; dir.reads(), 0);
+    assert_eq!(rt; copy.get(&name), Some(&NameEntry::Ino { ino: 2 }));
+    Ok(())
+}
+
 /// Puts a thousand names into both forms, in an order that a step gives.
 fn fill(
     alloc: Global,

@@ -12,7 +12,7 @@ use Rattle.vfs_tree.specs.Name.{name_cmp}
 use Rattle.mem_fs.specs.declared.inode.NewNode.{NewNode}
 use Rattle.mem_fs.specs.declared.inode.NewNode.TheVariants as new
 use Rattle.mem_fs.specs.declared.inode.Content.{Content}
-use Rattle.mem_fs.specs.NewNodes.{new_node}
+use Rattle.mem_fs.specs.NewNodes.{new_node, new_name}
 use Rattle.mem_fs.specs.Contents.{made_ready}
 use Rattle.mem_fs.proofs.Kept.{get-kept, kept-insert}
 use Rattle.vfs_tree.specs.Nodes.{entry_in, is_given, is_white, is_dir_node}
@@ -27,13 +27,15 @@ use Rattle.mem_fs.specs.declared.inode.Inode.{Inode}
 use Rattle.mem_fs.specs.Inodes.{Inodes, edited, with_new, with_content, kept, node_of, nodes_of, links_of, gained, given_gone, dropped_at}
 use Rattle.mem_fs.specs.Rooms.{HasRoomAt, IsRoomyAt}
 use Rattle.mem_fs.proofs.Rooms.{has_room_at, roomy_gone, roomy_gained, roomy_dropped, roomy_made, roomy_kept, there_gone, get_other}
-use Rattle.mem_fs.specs.Counts.{times, above_zero}
+use Rattle.vfs_tree.specs.Counts.{times, above_zero}
 use Rattle.mem_fs.specs.FileSystem.{FileSystem, seen, facts_by, GivesBare}
+use Rattle.mem_fs.specs.Named.{parent_in}
 use Rattle.mem_fs.specs.Invariant.{IsKept, IsLike}
 use Rattle.mem_fs.proofs.Seen.{like_ready, like_same}
 use Rattle.mem_fs.proofs.Looks.{looked, find_found}
-use Rattle.mem_fs.proofs.CountLaws.{named_times}
-use Rattle.mem_fs.proofs.KeptLaws.{IsLinked, IsBareAt}
+use Rattle.vfs_tree.proofs.CountLaws.{named_times}
+use Rattle.mem_fs.proofs.NameLaws.{IsBareAt, no_none, same_some}
+use Rattle.mem_fs.proofs.KeptLaws.{IsLinked}
 
 no_clash : false ≡ true → ⊥
 no_clash e = let clash : false ≡ true = e in cc
@@ -91,6 +93,16 @@ some_there None h = h
 pub there_of : (m : Inodes) (next : ℕ) (v : FileSystem) (i : ℕ) → seen m next ≡ v → IsSome (get v.store.nodes i) → IsSome (get m i)
 there_of m next v i is some = some_there (get m i) (subst IsSome (looked m next v i (get m i) is refl) some)
 
+no_parent : (o : Option Node) → is_dir_node o ≡ false → parent_in o ≡ None
+no_parent (Some (Dir parent opaque names)) h = absurd (no_clash (sym h))
+no_parent (Some (File bytes)) h = refl
+no_parent (Some (Link target)) h = refl
+no_parent None h = refl
+
+-- a node that is no directory
+pub file_of : (m : Inodes) (next : ℕ) (v : FileSystem) (i : ℕ) → seen m next ≡ v → is_dir_node (get v.store.nodes i) ≡ false → parent_in (option_map node_of (get m i)) ≡ None
+file_of m next v i is file = no_parent _ (ap is_dir_node (sym (looked m next v i (get m i) is refl)) ∙ file)
+
 -- ---- room
 
 pub room_copy : (copy : Option (List ℕ)) (n p : Inodes) (g : Option NameEntry) (d : ℕ) → IfSome copy (λ _. IsRoomyAt (get n d)) → p ≡ given_gone n g → IfSome copy (λ name. HasRoomAt name (get p d))
@@ -147,6 +159,14 @@ new_bare parent white new.File n = refl
 new_bare parent white (new.Link target) n = refl
 new_bare parent white new.Shadow n = ap is_given (get-empty name_cmp n)
 new_bare parent white (new.Copy bytes) n = refl
+
+-- a new directory keeps the name that it is made under
+pub new_known : (parent : ℕ) (white : Bool) (n : List ℕ) (x : NewNode) (p : ℕ) → parent_in (Some (new_node parent white x)) ≡ Some p → (p ≡ parent) × (new_name n x ≡ Some n)
+new_known parent white n new.Dir p at = (sym (same_some parent p at), refl)
+new_known parent white n new.File p at = absurd (no_none p at)
+new_known parent white n (new.Link target) p at = absurd (no_none p at)
+new_known parent white n new.Shadow p at = (sym (same_some parent p at), refl)
+new_known parent white n (new.Copy bytes) p at = absurd (no_none p at)
 
 kept-none : {B : Type 0} (f : Inode → Option B) → kept f empty ≡ empty
 kept-none f = same_map nat_cmp_total exact_unsigned _ _ (λ q. get-kept f empty q ∙ ap (option_and_then f) (get-empty nat_cmp q) ∙ sym (get-empty nat_cmp q))

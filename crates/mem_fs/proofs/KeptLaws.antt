@@ -19,14 +19,17 @@ use Rattle.vfs_tree.specs.declared.node.NameEntry.TheVariants.{Ino, White}
 use Rattle.mem_fs.specs.declared.inode.Content.{Content}
 use Rattle.mem_fs.specs.declared.inode.Content.TheVariants as held
 use Rattle.mem_fs.specs.declared.inode.Inode.{Inode}
-use Rattle.mem_fs.specs.Contents.{shown, put_in, cleared_in, placed, bared}
-use Rattle.mem_fs.specs.Inodes.{Inodes, edited, kept, node_of, nodes_of, links_of, with_content, let_go, gained, put_at, cleared_at, given_gone, dropped_at, given_to}
-use Rattle.mem_fs.specs.Counts.{optional, weight, names_giving, times}
+use Rattle.mem_fs.specs.Contents.{shown, name_of, put_in, cleared_in, placed, bared}
+use Rattle.mem_fs.specs.Inodes.{Inodes, edited, kept, node_of, nodes_of, links_of, own_name, with_content, let_go, gained, put_at, cleared_at, given_gone, dropped_at, given_to}
+use Rattle.vfs_tree.specs.Counts.{optional, weight, names_giving, times}
+use Rattle.mem_fs.specs.Named.{parent_in}
 use Rattle.mem_fs.specs.Invariant.{IsKept, AreBare}
 use Rattle.mem_fs.proofs.Kept.{same_number, get-edited, kept-same, kept-insert, kept-remove}
 use Rattle.mem_fs.proofs.Seen.{get-nodes, look_same, nodes-edited, shows-put, shows-clear, shows-place, shows-let_go}
-use Rattle.mem_fs.proofs.Totals.{total-zero}
-use Rattle.mem_fs.proofs.CountLaws.{times_put, times_cleared, times_emptied, times_moved, times_new, times_gone}
+use Rattle.mem_fs.proofs.NameLaws.{IsBareAt, no_nodes, named_removed, named_cleared, named_linked, named_gained, named_quiet, named_made, named_forgotten, named_first, named_renamed}
+use Rattle.vfs_tree.proofs.Totals.{total-zero}
+use Rattle.vfs_tree.proofs.NameCountLaws.{weight_at}
+use Rattle.vfs_tree.proofs.CountLaws.{times_put, times_cleared, times_emptied, times_moved, times_new, times_gone}
 
 -- what a node has at a name
 abbrev entry : List ℕ → Option Inode → Option NameEntry
@@ -75,15 +78,6 @@ links_given : (m : Inodes) (d : ℕ) (n : List ℕ) (hides : Bool) (g : Option N
 links_given m d n hides (Some (Ino i)) q = links_edited _ (put_at m d n (Ino i)) i q ∙ links_edited _ m d q
 links_given m d n hides (Some White) q = refl
 links_given m d n hides None q = refl
-
--- an entry's weight, by the test of maps
-weight_at : (i j : ℕ) (b : Bool) → eq_by_cmp nat_cmp i j ≡ b → weight i (Ino j) ≡ cond b 1 0
-weight_at i j true e = ap (λ b. cond b 1 0) (eq-eqb j i (sym (same_number i j e)))
-weight_at i j false e = ap (λ b. cond b 1 0) (other (j == i) refl)
-  where
-    other : (b : Bool) → (j == i) ≡ b → (j == i) ≡ false
-    other false is = is
-    other true is = absurd (no_clash (sym e ∙ ap (λ k. is_eq (nat_cmp i k)) (eqb→eq j i (subst T (sym is) tt)) ∙ ap is_eq (tied_itself nat_cmp_total i)))
 
 fewer : (o : Option Inode) (b : Bool) (w : ℕ) → w ≡ cond b 1 0 → links_of (cond b (option_map let_go o) o) ≡ links_of o - w
 fewer (Some x) true w is = omega (arith, is)
@@ -193,10 +187,6 @@ bare_placed m k to own hides = bare_quiet (placed to own hides) (place_quiet to 
 
 -- ---- what the entries of an edited store weigh
 
--- what an entry gives has no names that give a node
-abbrev pub IsBareAt : Inodes → Option NameEntry → Type 0
-IsBareAt m g = (j : ℕ) → g ≡ Some (Ino j) → (n : List ℕ) → is_given (entry n (get m j)) ≡ false
-
 weightless : (i : ℕ) (e : Option NameEntry) → is_given e ≡ false → optional (weight i) e ≡ 0
 weightless i (Some (Ino j)) h = absurd (no_clash (sym h))
 weightless i (Some White) h = refl
@@ -295,6 +285,7 @@ kept-removed n p q next g w d name kept given bare dir gone dropped =
           let before = kept.counts i in
           omega (arith, fall, stay, weigh, known, links, lose, before);
       bare = bare_dropped w (given_gone n g) d name (bare_gone n g kept.bare);
+      named = named_removed n g w d name kept.named given bare;
     })
 
 -- a further name of a node
@@ -315,9 +306,9 @@ bare_gained m j bare i root zero n = ap is_given (entry_gained m j i n) ∙ bare
 times_gained : (m : Inodes) (j i : ℕ) → times (nodes_of (edited gained m j)) i ≡ times (nodes_of m) i
 times_gained m j i = ap (λ x. times x i) (kept-same (λ (x : Inode). Some (node_of x)) gained m j (λ x. refl))
 
-pub kept-linked : (n p q : Inodes) (next j d : ℕ) (name : List ℕ) → IsKept n next → IsSome (get n j) → is_given (entry name (get n d)) ≡ false → is_dir_node (option_map node_of (get n d)) ≡ true → IsLinked n d
+pub kept-linked : (n p q : Inodes) (next j d : ℕ) (name : List ℕ) → IsKept n next → IsSome (get n j) → parent_in (option_map node_of (get n j)) ≡ None → is_given (entry name (get n d)) ≡ false → is_dir_node (option_map node_of (get n d)) ≡ true → IsLinked n d
     → p ≡ edited gained n j → q ≡ put_at p d name (Ino j) → IsKept q next
-kept-linked n p q next j d name kept there new dir linked more put =
+kept-linked n p q next j d name kept there file new dir linked more put =
     subst (λ x. IsKept x next) (sym (put ∙ ap (λ x. put_at x d name (Ino j)) more)) (record {
       below = below_as n _ next (λ i. there_edited _ (edited gained n j) d i ∙ there_edited gained n j i) kept.below;
       counts = λ i.
@@ -329,6 +320,8 @@ kept-linked n p q next j d name kept there new dir linked more put =
           let before = kept.counts i in
           omega (arith, rise, stay, none, links, gain, before);
       bare = bare_put (edited gained n j) d name (Ino j) (λ root zero. linked root (gained_links n j d zero)) (bare_gained n j kept.bare);
+      named = named_linked (edited gained n j) j d name (named_gained n j kept.named) (look_same (λ o. parent_in (option_map node_of o)) gained (λ x. refl) n j j ∙ file)
+          (ap is_given (entry_gained n j d name) ∙ new) (look_same (λ o. is_dir_node (option_map node_of o)) gained (λ x. refl) n j d ∙ dir);
     })
 
 -- a whiteout that goes
@@ -343,16 +336,19 @@ kept-cleared m n next d name kept white is =
           let before = kept.counts i in
           omega (arith, fall, none, links, before);
       bare = bare_dropped false m d name kept.bare;
+      named = named_cleared m d name kept.named white;
     })
 
 -- an edit of what contracts see of a node elsewhere than in names
 pub kept-quiet : (g : Content → Content) (m n : Inodes) (next k : ℕ) → ((name : List ℕ) (c : Content) → entry_in name (Some (shown (g c))) ≡ entry_in name (Some (shown c)))
+    → ((c : Content) → parent_in (Some (shown (g c))) ≡ parent_in (Some (shown c))) → ((c : Content) → name_of (g c) ≡ name_of c)
     → ((i : ℕ) → times (nodes_of (edited (with_content g) m k)) i ≡ times (nodes_of m) i) → IsKept m next → n ≡ edited (with_content g) m k → IsKept n next
-kept-quiet g m n next k same times_same kept is =
+kept-quiet g m n next k same parents names times_same kept is =
     subst (λ x. IsKept x next) (sym is) (record {
       below = below_as m _ next (λ i. there_edited _ m k i) kept.below;
       counts = λ i. links_edited g m k i ∙ kept.counts i ∙ sym (times_same i);
       bare = bare_quiet g (λ name c h. ap is_given (same name c) ∙ h) m k kept.bare;
+      named = named_quiet g m k same parents names kept.named;
     })
 
 -- ---- a new node
@@ -393,9 +389,17 @@ fresh_other m k d x less = get-insert nat_cmp_total m k x d ∙ by_case (eq_by_c
     by_case true e = absurd (let same : d ≡ k = same_number d k e in omega (arith, same, less))
     by_case false e = refl
 
+-- no name gives a number that has no node
+fresh_entry : (n : Inodes) (next k : ℕ) → IsKept n next → get n k ≡ None → (d : ℕ) (name : List ℕ) → entry name (get n d) ≡ Some (Ino k) → ⊥
+fresh_entry n next k kept none d name is =
+    let fall = times_cleared_at n d k name in
+    let one : optional (weight k) (entry name (get n d)) ≡ 1 = ap (optional (weight k)) is ∙ weight_at k k true (ap is_eq (tied_itself nat_cmp_total k)) in
+    let zero : times (nodes_of n) k ≡ 0 = sym (kept.counts k) ∙ ap links_of none in
+    omega (arith, fall, one, zero)
+
 pub kept-made : (n p q : Inodes) (next : ℕ) (x : Inode) (d : ℕ) (name : List ℕ) → IsKept n next → get n next ≡ None → x.links ≡ 1 → ((name : List ℕ) → is_given (entry name (Some x)) ≡ false)
-    → d < next → is_given (entry name (get n d)) ≡ false → is_dir_node (option_map node_of (get n d)) ≡ true → IsLinked n d → p ≡ insert n next x → q ≡ put_at p d name (Ino next) → IsKept q (next + 1)
-kept-made n p q next x d name kept none one bare less new dir linked made put =
+    → ((p : ℕ) → parent_in (option_map node_of (Some x)) ≡ Some p → (p ≡ d) × (own_name (Some x) ≡ Some name)) → d < next → is_given (entry name (get n d)) ≡ false → is_dir_node (option_map node_of (get n d)) ≡ true → IsLinked n d → p ≡ insert n next x → q ≡ put_at p d name (Ino next) → IsKept q (next + 1)
+kept-made n p q next x d name kept none one bare known less new dir linked made put =
     let other : get (insert n next x) d ≡ get n d = fresh_other n next d x less in
     subst (λ y. IsKept y (next + 1)) (sym (put ∙ ap (λ y. put_at y d name (Ino next)) made)) (record {
       below = below_as (insert n next x) _ (next + 1) (λ i. there_edited _ (insert n next x) d i)
@@ -409,6 +413,7 @@ kept-made n p q next x d name kept none one bare less new dir linked made put =
           let before = kept.counts i in
           omega (arith, rise, stay, nothing, links, gain, before);
       bare = bare_put (insert n next x) d name (Ino next) (λ root zero. linked root (ap links_of (sym other) ∙ zero)) (fresh_bare n next x one kept.bare);
+      named = named_made n next x d name kept.named none (fresh_entry n next next kept none) bare known (λ same. omega (arith, same, less)) new dir;
     })
 
 -- ---- a node that is forgotten
@@ -423,6 +428,7 @@ kept-forgotten m n next k kept root zero is =
           ∙ times_gone (nodes_of m) k i (λ n. ap (λ o. is_given (entry_in n o)) (get-nodes m k) ∙ kept.bare k root zero n));
       bare = λ i other none n. ap (λ o. is_given (entry n o)) (get-remove nat_cmp_total m k i)
           ∙ bare_case i n other (eq_by_cmp nat_cmp i k) (sym (ap links_of (get-remove nat_cmp_total m k i)) ∙ none);
+      named = named_forgotten m k kept.named (kept.bare k root zero);
     })
   where
     below_case : (i : ℕ) (b : Bool) → is_some (cond b None (get m i)) ≡ true → IsSome (get m i)
@@ -515,21 +521,20 @@ kept-renamed n p q r next (Some (Ino k)) target w hides from old to new kept giv
           let before = kept.counts i in
           omega (arith, stay, fall, weigh, known, rise, weigh_to, place, links, same, lose, before);
       bare = bare_placed m3 k to new hides (bare_put m2 to new (Ino k) (linked_later n target w from old to new there bare linked) (bare_dropped w m1 from old (bare_gone n target kept.bare)));
+      named = named_renamed n k target w hides from old to new kept.named given there apart bare to_dir;
     })
 
 -- ---- the first node
 
-abbrev no_nodes : Inodes
-no_nodes = empty
-
 -- a root without names, alone
-pub kept-first : (x : Inode) (m : Inodes) → x.links ≡ 0 → ((n : List ℕ) → is_given (entry n (Some x)) ≡ false) → m ≡ insert empty 1 x → IsKept m 2
-kept-first x m none bare is =
+pub kept-first : (x : Inode) (m : Inodes) → x.links ≡ 0 → ((n : List ℕ) → is_given (entry n (Some x)) ≡ false) → own_name (Some x) ≡ None → m ≡ insert empty 1 x → IsKept m 2
+kept-first x m none bare own is =
     subst (λ y. IsKept y 2) (sym is) (record {
       below = λ i some. fresh_below no_nodes 1 2 x (omega arith) (λ i some. absurd (no_clash (sym (ap is_some (get-empty nat_cmp i)) ∙ some))) i some;
       counts = λ i. ap links_of (get-insert nat_cmp_total no_nodes 1 x i) ∙ links_case i (eq_by_cmp nat_cmp i 1)
           ∙ sym (fresh_times no_nodes 1 i x (get-empty nat_cmp 1) bare ∙ no_times i);
       bare = λ i root zero n. ap (λ o. is_given (entry n o)) (get-insert nat_cmp_total no_nodes 1 x i) ∙ bare_case i n (eq_by_cmp nat_cmp i 1);
+      named = named_first 1 x bare own;
     })
   where
     links_case : (i : ℕ) (b : Bool) → links_of (cond b (Some x) (get no_nodes i)) ≡ 0

@@ -1,9 +1,11 @@
 pub mod Kept
 pub mod Seen
 pub mod Rooms
-pub mod Totals
 pub mod Copies
-pub mod CountLaws
+pub mod NameLaws
 pub mod KeptLaws
 pub mod Looks
+pub mod NameLooks
 pub mod Calls
+pub mod Told
+pub mod RoomMade

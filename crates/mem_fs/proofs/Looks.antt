@@ -18,14 +18,15 @@ use Rattle.vfs_tree.specs.declared.node.Node.{Node}
 use Rattle.mem_fs.specs.declared.inode.Content.{Content}
 use Rattle.mem_fs.specs.declared.inode.Content.TheVariants as held
 use Rattle.mem_fs.specs.declared.inode.Inode.{Inode}
-use Rattle.mem_fs.specs.Contents.{shown, reads_of, reserved_of, counted_in, written_in, cut_in, reserved_to}
+use Rattle.mem_fs.specs.Contents.{shown, reads_of, reserved_of, name_of, counted_in, written_in, cut_in, reserved_to}
 use Rattle.mem_fs.specs.Inodes.{Inodes, edited, kept, node_of, nodes_of, reads_at, reserved_at, with_content}
 use Rattle.mem_fs.specs.FileSystem.{FileSystem, seen, without}
-use Rattle.mem_fs.specs.Counts.{times}
+use Rattle.vfs_tree.specs.Counts.{times}
+use Rattle.mem_fs.specs.Named.{parent_in}
 use Rattle.mem_fs.specs.Invariant.{IsKept}
 use Rattle.mem_fs.proofs.Kept.{get-kept, kept-edited, kept-same, kept-remove}
 use Rattle.mem_fs.proofs.Seen.{get-nodes, nodes-edited, shows-write, shows-cut, entry_seen}
-use Rattle.mem_fs.proofs.CountLaws.{times_bytes}
+use Rattle.vfs_tree.proofs.CountLaws.{times_bytes}
 use Rattle.mem_fs.proofs.KeptLaws.{kept-quiet}
 
 -- a node
@@ -72,6 +73,11 @@ reserved_counted (held.Dir parent opaque name names) = refl
 reserved_counted (held.File bytes) = refl
 reserved_counted (held.Link target) = refl
 
+name_counted : (c : Content) → name_of (counted_in c) ≡ name_of c
+name_counted (held.Dir parent opaque name names) = refl
+name_counted (held.File bytes) = refl
+name_counted (held.Link target) = refl
+
 -- an edit that the store does not show
 pub unshown : (g : Content → Content) → ((c : Content) → shown (g c) ≡ shown c) → (m n : Inodes) (next k : ℕ) (v : FileSystem) → seen m next ≡ v → n ≡ edited (with_content g) m k → (seen n next).store ≡ v.store
 unshown g u m n next k v is put =
@@ -79,15 +85,15 @@ unshown g u m n next k v is put =
     ∙ ap (λ (x : FinMap nat_cmp Node). record { nodes = x; next = next }) (kept-same (λ (x : Inode). Some (node_of x)) (with_content g) m k (λ x. ap Some (u x.content)))
     ∙ ap (λ (x : FileSystem). x.store) is
 
-pub kept-unshown : (g : Content → Content) → ((c : Content) → shown (g c) ≡ shown c) → (m n : Inodes) (next k : ℕ) → IsKept m next → n ≡ edited (with_content g) m k → IsKept n next
-kept-unshown g u m n next k kept put = kept-quiet g m n next k (λ name c. ap (λ x. entry_in name (Some x)) (u c))
+pub kept-unshown : (g : Content → Content) → ((c : Content) → shown (g c) ≡ shown c) → ((c : Content) → name_of (g c) ≡ name_of c) → (m n : Inodes) (next k : ℕ) → IsKept m next → n ≡ edited (with_content g) m k → IsKept n next
+kept-unshown g u names m n next k kept put = kept-quiet g m n next k (λ name c. ap (λ x. entry_in name (Some x)) (u c)) (λ c. ap (λ x. parent_in (Some x)) (u c)) names
     (λ i. ap (λ x. times x i) (kept-same (λ (x : Inode). Some (node_of x)) (with_content g) m k (λ x. ap Some (u x.content)))) kept put
 
 pub find_store : (m n : Inodes) (next k : ℕ) (v : FileSystem) → seen m next ≡ v → n ≡ edited (with_content counted_in) m k → (seen n next).store ≡ v.store
 find_store = unshown counted_in shown_counted
 
 pub find_kept : (m n : Inodes) (next k : ℕ) → IsKept m next → n ≡ edited (with_content counted_in) m k → IsKept n next
-find_kept = kept-unshown counted_in shown_counted
+find_kept = kept-unshown counted_in shown_counted name_counted
 
 pub find_reads : (m n : Inodes) (next k : ℕ) (v : FileSystem) → seen m next ≡ v → n ≡ edited (with_content counted_in) m k → reads_at n ≡ edited (λ reads. min (reads + 1) (2 ^ 64 - 1)) v.reads k
 find_reads m n next k v is put =
@@ -118,11 +124,16 @@ room_reserved len (held.Dir parent opaque name names) = refl
 room_reserved len (held.File bytes) = refl
 room_reserved len (held.Link target) = refl
 
+name_reserved : (len : ℕ) (c : Content) → name_of (reserved_to len c) ≡ name_of c
+name_reserved len (held.Dir parent opaque name names) = refl
+name_reserved len (held.File bytes) = refl
+name_reserved len (held.Link target) = refl
+
 pub room_store : (len : ℕ) (m n : Inodes) (next k : ℕ) (v : FileSystem) → seen m next ≡ v → n ≡ edited (with_content (reserved_to len)) m k → (seen n next).store ≡ v.store
 room_store len = unshown (reserved_to len) (shown_reserved len)
 
 pub room_kept : (len : ℕ) (m n : Inodes) (next k : ℕ) → IsKept m next → n ≡ edited (with_content (reserved_to len)) m k → IsKept n next
-room_kept len = kept-unshown (reserved_to len) (shown_reserved len)
+room_kept len = kept-unshown (reserved_to len) (shown_reserved len) (name_reserved len)
 
 pub room_reads : (len : ℕ) (m n : Inodes) (next k : ℕ) (v : FileSystem) → seen m next ≡ v → n ≡ edited (with_content (reserved_to len)) m k → reads_at n ≡ v.reads
 room_reads len m n next k v is put =
@@ -145,12 +156,32 @@ entry_cut len n (held.Dir parent opaque name names) = refl
 entry_cut len n (held.File bytes) = refl
 entry_cut len n (held.Link target) = refl
 
+parent_written : (at : ℕ) (piece : List ℕ) (c : Content) → parent_in (Some (shown (written_in at piece c))) ≡ parent_in (Some (shown c))
+parent_written at piece (held.Dir parent opaque name names) = refl
+parent_written at piece (held.File bytes) = refl
+parent_written at piece (held.Link target) = refl
+
+name_written : (at : ℕ) (piece : List ℕ) (c : Content) → name_of (written_in at piece c) ≡ name_of c
+name_written at piece (held.Dir parent opaque name names) = refl
+name_written at piece (held.File bytes) = refl
+name_written at piece (held.Link target) = refl
+
+parent_cut : (len : ℕ) (c : Content) → parent_in (Some (shown (cut_in len c))) ≡ parent_in (Some (shown c))
+parent_cut len (held.Dir parent opaque name names) = refl
+parent_cut len (held.File bytes) = refl
+parent_cut len (held.Link target) = refl
+
+name_cut : (len : ℕ) (c : Content) → name_of (cut_in len c) ≡ name_of c
+name_cut len (held.Dir parent opaque name names) = refl
+name_cut len (held.File bytes) = refl
+name_cut len (held.Link target) = refl
+
 pub kept-written : (at : ℕ) (piece : List ℕ) (m n : Inodes) (next k : ℕ) → IsKept m next → n ≡ edited (with_content (written_in at piece)) m k → IsKept n next
-kept-written at piece m n next k = kept-quiet (written_in at piece) m n next k (entry_written at piece)
+kept-written at piece m n next k = kept-quiet (written_in at piece) m n next k (entry_written at piece) (parent_written at piece) (name_written at piece)
     (λ i. ap (λ x. times x i) (nodes-edited (with_content (written_in at piece)) (with_bytes (λ old. write_bytes old at piece)) m k ((shows-write at piece).node)) ∙ times_bytes (λ old. write_bytes old at piece) (nodes_of m) k i)
 
 pub kept-cut : (len : ℕ) (m n : Inodes) (next k : ℕ) → IsKept m next → n ≡ edited (with_content (cut_in len)) m k → IsKept n next
-kept-cut len m n next k = kept-quiet (cut_in len) m n next k (entry_cut len)
+kept-cut len m n next k = kept-quiet (cut_in len) m n next k (entry_cut len) (parent_cut len) (name_cut len)
     (λ i. ap (λ x. times x i) (nodes-edited (with_content (cut_in len)) (with_bytes (λ old. resize_bytes old len)) m k ((shows-cut len).node)) ∙ times_bytes (λ old. resize_bytes old len) (nodes_of m) k i)
 
 -- ---- a node that is forgotten

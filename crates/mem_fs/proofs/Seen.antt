@@ -17,7 +17,8 @@ use Rattle.mem_fs.specs.declared.inode.Inode.{Inode}
 use Rattle.mem_fs.specs.Contents.{shown, reads_of, reserved_of, name_of, put_in, cleared_in, made_ready, bared, placed, written_in, cut_in}
 use Rattle.mem_fs.specs.Inodes.{Inodes, with_value, edited, with_new, kept, node_of, nodes_of, store_of, links_of, own_name, with_content, let_go, gained, put_at, given_gone, dropped_at, given_to}
 use Rattle.mem_fs.specs.FileSystem.{FileSystem, seen, with_store, with_edit}
-use Rattle.mem_fs.specs.Counts.{times}
+use Rattle.vfs_tree.specs.Counts.{times}
+use Rattle.mem_fs.specs.Named.{parent_in}
 use Rattle.mem_fs.specs.Invariant.{IsKept, IsLike}
 use Rattle.mem_fs.proofs.Kept.{get-edited, get-kept, kept-edited, kept-same, kept-insert}
 
@@ -302,7 +303,16 @@ kept-like m n next like kept = record {
   bare = λ i root zero name.
       ap (λ o. is_given (entry_in name o)) (sym (get-nodes n i) ∙ ap (λ (x : FileSystem). get x.store.nodes i) (like.seen next) ∙ get-nodes m i)
       ∙ kept.bare i root (sym (like.links i) ∙ zero) name;
+  named = record {
+    once = λ d i p name at is.
+        let was = kept.named.once d i p name (sym (ap parent_in (node i)) ∙ at) (sym (ap (entry_in name) (node d)) ∙ is) in
+        (was.0, like.names i ∙ was.1);
+    stands = λ i p name at is. ap (entry_in name) (node p) ∙ kept.named.stands i p name (sym (ap parent_in (node i)) ∙ at) (sym (like.names i) ∙ is);
+  };
 }
+  where
+    node : (i : ℕ) → option_map node_of (get n i) ≡ option_map node_of (get m i)
+    node i = sym (get-nodes n i) ∙ ap (λ (x : FileSystem). get x.store.nodes i) (like.seen next) ∙ get-nodes m i
 
 -- a node that is made under a name
 pub nodes-made : (m n p q : Inodes) (next : ℕ) (v : FileSystem) (x : Inode) (node : Node) (d : ℕ) (name : List ℕ) → seen m next ≡ v → IsKept m next → IsLike m n → node_of x ≡ node → p ≡ insert n next x → q ≡ put_at p d name (Ino next)

@@ -2,9 +2,10 @@
 use Rattle.std.specs.Prelude.{ℕ, ◌≡◌, ◌<◌, false, IsSome, is_some, option_map, List}
 use Rattle.std.specs.FinMap.{get}
 use Rattle.vfs_tree.specs.Nodes.{entry_in, is_given}
-use Rattle.mem_fs.specs.Counts.{times}
+use Rattle.vfs_tree.specs.Counts.{times}
 use Rattle.mem_fs.specs.Inodes.{Inodes, node_of, nodes_of, links_of, own_name}
 use Rattle.mem_fs.specs.FileSystem.{seen}
+use Rattle.mem_fs.specs.Named.{AreNamed}
 
 -- a node that no name gives has no names that give one, but for the root
 abbrev pub AreBare : Inodes → Type 0
@@ -18,6 +19,8 @@ pub record IsKept (m : Inodes) (next : ℕ) : Type 0 where
   pub counts : (i : ℕ) → links_of (get m i) ≡ times (nodes_of m) i
   -- a node that no name gives has no names that give one
   pub bare : AreBare m
+  -- a directory keeps the name that its parent has for it
+  pub named : AreNamed m
 
 -- nodes that contracts see alike, with the same counts
 pub record IsLike (m n : Inodes) : Type 0 where

@@ -7,13 +7,14 @@ ghost use Rattle.vfs_tree.specs.Edits.{made};
 ghost use Rattle.vfs_tree.specs.StoreEdits.{entry_of, set_entry, clear_entry, removed, renamed};
 ghost use Rattle.vfs_tree.specs.FileEdits.{written, resized};
 ghost use Rattle.vfs_tree.specs.Start.{empty_store};
-ghost use Rattle.vfs_tree.specs.Views.{kind_of_node, target_in, is_named_in, dir_in};
+ghost use Rattle.vfs_tree.specs.Views.{kind_of_node, target_in, is_named_in, dir_in, dir_name};
 ghost use Rattle.vfs_tree.specs.Visible.{names_in};
 ghost use Rattle.vfs_tree.specs.declared.node.NameEntry.TheVariants.{Ino};
 ghost use Rattle.mem_fs.specs.Inodes.{edited, with_new};
 ghost use Rattle.mem_fs.specs.NewNodes.{new_node, new_reads, new_reserved};
 ghost use Rattle.mem_fs.specs.FileSystem.{with_store, without, bytes_in, IsLinkedDir, GivesBare};
 
+use crate::entries::is_white;
 use crate::inode::{Content, Inode, NewNode, content_of};
 use crate::nodes;
 use finite_maps::{Duplicate, NumberMap};
@@ -44,17 +45,6 @@ impl Model for MemFs {
     ghost view = { λ f. seen f.nodes f.next };
 
     ghost invariant = { λ f. IsKept f.nodes f.next };
-}
-
-/// Whether a whiteout stands there.
-fn is_white(entry: Option<NameEntry>) -> bool
-    ensures { result ≡ is_white entry }
-{
-    match entry {
-        Some(NameEntry::White) => true,
-        Some(NameEntry::Ino { .. }) => false,
-        None => false,
-    }
 }
 
 /// Whether a directory becomes opaque that is renamed to a name that has this entry.
@@ -273,6 +263,17 @@ impl MemFs {
         let linked = nodes::is_reached(&self.nodes, ino);
         match self.nodes.get(ino) {
             Some(inode) => inode.content.facts(linked),
+            None => None,
+        }
+    }
+
+    /// The name that its parent has for a directory. `None` comes exactly where there is no directory, and for the root
+    /// and a directory that was removed or replaced.
+    pub fn name_of(&self, ino: u32) -> Option<&Name>
+        ensures { option_copied result ≡ dir_name self.now.store ino }
+    {
+        match self.nodes.get(ino) {
+            Some(inode) => inode.content.own_name(),
             None => None,
         }
     }

@@ -191,6 +191,17 @@ impl Content {
         }
     }
 
+    /// The name that its parent has for a directory.
+    pub fn own_name(&self) -> Option<&Name>
+        ensures { option_copied result ≡ name_of self.now }
+    {
+        match self {
+            Content::Dir { name, .. } => name.as_ref(),
+            Content::File { .. } => None,
+            Content::Link { .. } => None,
+        }
+    }
+
     /// How many bytes a regular file has.
     pub fn size(&self) -> usize
         ensures { result ≡ length (bytes_in (Some (shown self.now))) }

@@ -4,7 +4,7 @@ ghost use Rattle.std.specs.FinMap as map;
 ghost use Rattle.vfs_tree.specs.Nodes.{entry_in};
 ghost use Rattle.mem_fs.specs.Contents.{counted_in, made_ready, placed, written_in, cut_in, reserved_to};
 ghost use Rattle.mem_fs.specs.Inodes.{node_of, nodes_of, edited, with_content, links_of, gained, put_at, cleared_at, given_gone, dropped_at, given_to};
-ghost use Rattle.mem_fs.specs.Counts.{above_zero};
+ghost use Rattle.vfs_tree.specs.Counts.{above_zero};
 ghost use Rattle.mem_fs.specs.Invariant.{IsLike};
 ghost use Rattle.mem_fs.specs.Rooms.{HasRoomAt, IsRoomyAt, HasRoomToAt};
 

@@ -1,29 +1,45 @@
-use crate::{MemFs, MemVop};
+use crate::callers::{clear_white, cut, forget, link, make, remove, rename, write};
+use crate::{MemFs, MemVop, NewNode};
+use mem_file::MemFile;
 use op_vector::{Route, VData, Vop};
+use std::alloc::Global;
 use std::test::Fail;
-use vfs_tree::{ByteBuffer, DirFacts, Errno, Kind, Name};
+use vfs_tree::{ByteBuffer, Bytes, DirFacts, Errno, Kind, Name, NameEntry, Node};
+
+/// A file system with a directory, which has the number 2, at `dir`.
+fn with_dir(alloc: Global) -> Result<MemFs, Fail> {
+    let mut fs = MemFs::new(alloc)?;
+    make(alloc, &mut fs, 1, Name::new(alloc, b"dir")?, NewNode::Dir)?;
+    Ok(fs)
+}
+
+/// A file system with a regular file, which has the number 2, at `file`.
+fn with_file(alloc: Global) -> Result<MemFs, Fail> {
+    let mut fs = MemFs::new(alloc)?;
+    make(alloc, &mut fs, 1, Name::new(alloc, b"file")?, NewNode::File)?;
+    Ok(fs)
+}
 
 #[test]
 fn a_root_alone(rt: HostRuntime) -> Result<(), Fail> {
     let alloc = rt.alloc();
-    let name = Name::new(alloc, b"name")?;
-    let mut fs = MemFs::new(alloc)?;
+    let fs = MemFs::new(alloc)?;
     assert!(rt; fs.has_number());
     assert_eq!(rt; fs.kind(1), Some(Kind::Dir));
     assert_eq!(rt; fs.kind(2), None);
-    assert_eq!(rt; fs.find(1, &name), None);
-    assert_eq!(rt; fs.reads(1), Some(1));
-    assert_eq!(rt; fs.reads(2), None);
     assert!(rt; !fs.is_named(1));
-    let facts = DirFacts {
-        parent: 1,
-        opaque: false,
-        linked: true,
-    };
-    assert_eq!(rt; fs.facts(1), Some(facts));
+    assert_eq!(rt; fs.store(alloc)?.next, 2);
+    Ok(())
+}
+
+#[test]
+fn names_of_the_root(rt: HostRuntime) -> Result<(), Fail> {
+    let alloc = rt.alloc();
+    let name = Name::new(alloc, b"name")?;
+    let mut fs = MemFs::new(alloc)?;
+    assert_eq!(rt; fs.find(1, &name), None);
     assert_eq!(rt; fs.list(alloc, 1)?.len(), 0);
     assert_eq!(rt; fs.list_white(alloc, 1)?.len(), 0);
-    assert_eq!(rt; fs.store(alloc)?.next, 2);
     Ok(())
 }
 
@@ -41,6 +57,242 @@ fn no_file(rt: HostRuntime) -> Result<(), Fail> {
 }
 
 #[test]
+fn a_new_directory(rt: HostRuntime) -> Result<(), Fail> {
+    let alloc = rt.alloc();
+    let mut fs = with_dir(alloc)?;
+    let name = Name::new(alloc, b"inner")?;
+    assert_eq!(rt; make(alloc, &mut fs, 2, name, NewNode::Dir)?, 3);
+    let facts = DirFacts {
+        parent: 2,
+        opaque: false,
+        linked: true,
+    };
+    assert_eq!(rt; fs.facts(3), Some(facts));
+    Ok(())
+}
+
+#[test]
+fn a_new_file(rt: HostRuntime) -> Result<(), Fail> {
+    let alloc = rt.alloc();
+    let mut fs = with_dir(alloc)?;
+    let name = Name::new(alloc, b"file")?;
+    assert_eq!(rt; make(alloc, &mut fs, 2, name, NewNode::File)?, 3);
+    assert_eq!(rt; fs.kind(3), Some(Kind::File));
+    assert_eq!(rt; fs.size(3), 0);
+    Ok(())
+}
+
+#[test]
+fn a_new_link(rt: HostRuntime) -> Result<(), Fail> {
+    let alloc = rt.alloc();
+    let mut fs = MemFs::new(alloc)?;
+    let target = Bytes::copy_of(alloc, b"/dir/file")?;
+    let name = Name::new(alloc, b"link")?;
+    assert_eq!(rt; make(alloc, &mut fs, 1, name, NewNode::Link { target })?, 2);
+    assert_eq!(rt; fs.kind(2), Some(Kind::Link));
+    assert_eq!(rt; fs.target(2), Some(b"/dir/file".as_slice()));
+    Ok(())
+}
+
+#[test]
+fn a_new_copy(rt: HostRuntime) -> Result<(), Fail> {
+    let alloc = rt.alloc();
+    let mut fs = MemFs::new(alloc)?;
+    let mut bytes = MemFile::new(alloc);
+    bytes.reserve_to(alloc, 3)?;
+    bytes.write_at(0, b"abc");
+    let name = Name::new(alloc, b"copy")?;
+    assert_eq!(rt; make(alloc, &mut fs, 1, name, NewNode::Copy { bytes })?, 2);
+    assert_eq!(rt; fs.size(2), 3);
+    Ok(())
+}
+
+/// Whether a node that is made over a whiteout is an opaque directory.
+fn is_opaque_over_a_whiteout(alloc: Global, node: NewNode) -> Result<bool, Fail> {
+    let mut fs = MemFs::new(alloc)?;
+    let name = Name::new(alloc, b"name")?;
+    remove(alloc, &mut fs, 1, &name, true)?;
+    let ino = make(alloc, &mut fs, 1, name, node)?;
+    match fs.facts(ino) {
+        Some(facts) => Ok(facts.opaque),
+        None => Ok(false),
+    }
+}
+
+#[test]
+fn a_directory_over_a_whiteout(rt: HostRuntime) -> Result<(), Fail> {
+    let alloc = rt.alloc();
+    assert!(rt; is_opaque_over_a_whiteout(alloc, NewNode::Dir)?);
+    assert!(rt; !is_opaque_over_a_whiteout(alloc, NewNode::Shadow)?);
+    Ok(())
+}
+
+#[test]
+fn remove_a_name(rt: HostRuntime) -> Result<(), Fail> {
+    let alloc = rt.alloc();
+    let mut fs = with_file(alloc)?;
+    let name = Name::new(alloc, b"file")?;
+    remove(alloc, &mut fs, 1, &name, false)?;
+    assert_eq!(rt; fs.find(1, &name), None);
+    assert!(rt; !fs.is_named(2));
+    Ok(())
+}
+
+#[test]
+fn remove_a_name_with_a_whiteout(rt: HostRuntime) -> Result<(), Fail> {
+    let alloc = rt.alloc();
+    let mut fs = with_file(alloc)?;
+    let name = Name::new(alloc, b"file")?;
+    remove(alloc, &mut fs, 1, &name, true)?;
+    assert_eq!(rt; fs.find(1, &name), Some(NameEntry::White));
+    assert_eq!(rt; fs.list_white(alloc, 1)?.as_slice().first(), Some(&name));
+    Ok(())
+}
+
+#[test]
+fn remove_a_directory(rt: HostRuntime) -> Result<(), Fail> {
+    let alloc = rt.alloc();
+    let mut fs = with_dir(alloc)?;
+    remove(alloc, &mut fs, 2, &Name::new(alloc, b"gone")?, true)?;
+    remove(alloc, &mut fs, 1, &Name::new(alloc, b"dir")?, false)?;
+    let facts = DirFacts {
+        parent: 1,
+        opaque: false,
+        linked: false,
+    };
+    assert_eq!(rt; fs.facts(2), Some(facts));
+    assert_eq!(rt; fs.list_white(alloc, 2)?.len(), 0);
+    Ok(())
+}
+
+#[test]
+fn rename_over_a_name(rt: HostRuntime) -> Result<(), Fail> {
+    let alloc = rt.alloc();
+    let mut fs = with_file(alloc)?;
+    let old = Name::new(alloc, b"file")?;
+    let new = Name::new(alloc, b"other")?;
+    make(
+        alloc,
+        &mut fs,
+        1,
+        Name::new(alloc, b"other")?,
+        NewNode::File,
+    )?;
+    rename(alloc, &mut fs, 1, &old, 1, &new, true)?;
+    assert_eq!(rt; fs.find(1, &old), Some(NameEntry::White));
+    assert_eq!(rt; fs.find(1, &new), Some(NameEntry::Ino { ino: 2 }));
+    assert!(rt; !fs.is_named(3));
+    Ok(())
+}
+
+#[test]
+fn rename_into_another_directory(rt: HostRuntime) -> Result<(), Fail> {
+    let alloc = rt.alloc();
+    let mut fs = with_dir(alloc)?;
+    let old = Name::new(alloc, b"old")?;
+    let new = Name::new(alloc, b"new")?;
+    make(alloc, &mut fs, 1, Name::new(alloc, b"old")?, NewNode::Dir)?;
+    rename(alloc, &mut fs, 1, &old, 2, &new, false)?;
+    assert_eq!(rt; fs.find(1, &old), None);
+    assert_eq!(rt; fs.find(2, &new), Some(NameEntry::Ino { ino: 3 }));
+    let facts = DirFacts {
+        parent: 2,
+        opaque: false,
+        linked: true,
+    };
+    assert_eq!(rt; fs.facts(3), Some(facts));
+    Ok(())
+}
+
+#[test]
+fn a_further_name(rt: HostRuntime) -> Result<(), Fail> {
+    let alloc = rt.alloc();
+    let mut fs = with_file(alloc)?;
+    link(alloc, &mut fs, 2, 1, Name::new(alloc, b"again")?)?;
+    remove(alloc, &mut fs, 1, &Name::new(alloc, b"file")?, false)?;
+    let again = Name::new(alloc, b"again")?;
+    assert_eq!(rt; fs.find(1, &again), Some(NameEntry::Ino { ino: 2 }));
+    assert!(rt; fs.is_named(2));
+    Ok(())
+}
+
+#[test]
+fn a_whiteout_that_goes(rt: HostRuntime) -> Result<(), Fail> {
+    let alloc = rt.alloc();
+    let mut fs = MemFs::new(alloc)?;
+    let name = Name::new(alloc, b"name")?;
+    remove(alloc, &mut fs, 1, &name, true)?;
+    clear_white(&mut fs, 1, &name)?;
+    assert_eq!(rt; fs.find(1, &name), None);
+    assert_eq!(rt; fs.list_white(alloc, 1)?.len(), 0);
+    Ok(())
+}
+
+#[test]
+fn a_node_that_is_forgotten(rt: HostRuntime) -> Result<(), Fail> {
+    let alloc = rt.alloc();
+    let mut fs = with_file(alloc)?;
+    remove(alloc, &mut fs, 1, &Name::new(alloc, b"file")?, false)?;
+    assert_eq!(rt; fs.kind(2), Some(Kind::File));
+    forget(&mut fs, 2)?;
+    assert_eq!(rt; fs.kind(2), None);
+    Ok(())
+}
+
+#[test]
+fn one_look_up_reads_one_record(rt: HostRuntime) -> Result<(), Fail> {
+    let alloc = rt.alloc();
+    let mut fs = MemFs::new(alloc)?;
+    let name = Name::new(alloc, b"name")?;
+    assert_eq!(rt; fs.reads(1), Some(0));
+    assert_eq!(rt; fs.find(1, &name), None);
+    assert_eq!(rt; fs.reads(1), Some(1));
+    assert_eq!(rt; fs.reads(2), None);
+    Ok(())
+}
+
+#[test]
+fn names_in_byte_order(rt: HostRuntime) -> Result<(), Fail> {
+    let alloc = rt.alloc();
+    let mut fs = with_file(alloc)?;
+    link(alloc, &mut fs, 2, 1, Name::new(alloc, b"again")?)?;
+    let names = fs.list(alloc, 1)?;
+    assert_eq!(rt; names.len(), 2);
+    assert_eq!(rt;
+        names.as_slice().first(),
+        Some(&Name::new(alloc, b"again")?)
+    );
+    assert_eq!(rt; names.as_slice().last(), Some(&Name::new(alloc, b"file")?));
+    Ok(())
+}
+
+#[test]
+fn bytes_of_a_file(rt: HostRuntime) -> Result<(), Fail> {
+    let alloc = rt.alloc();
+    let mut fs = with_file(alloc)?;
+    write(alloc, &mut fs, 2, 2, b"abcd")?;
+    let mut read = ByteBuffer::new(alloc);
+    read.reserve(4)?;
+    fs.read_into(2, 1, 4, &mut read);
+    assert_eq!(rt; read.as_slice(), b"\0abc".as_slice());
+    Ok(())
+}
+
+#[test]
+fn a_file_that_is_cut(rt: HostRuntime) -> Result<(), Fail> {
+    let alloc = rt.alloc();
+    let mut fs = with_file(alloc)?;
+    write(alloc, &mut fs, 2, 0, b"abcd")?;
+    cut(alloc, &mut fs, 2, 3)?;
+    assert_eq!(rt; fs.size(2), 3);
+    match fs.store(alloc)?.nodes.get(2) {
+        Some(Node::File { bytes }) => assert_eq!(rt; bytes.as_slice(), b"abc".as_slice()),
+        _ => assert!(rt; false),
+    }
+    Ok(())
+}
+
+#[test]
 fn routes(rt: HostRuntime) -> Result<(), Fail> {
     let vop = MemVop;
     let data = VData::Mem { mount: 3, ino: 7 };
@@ -49,5 +301,42 @@ fn routes(rt: HostRuntime) -> Result<(), Fail> {
     };
     assert_eq!(rt; vop.lookup(&data), Route::Here { ino: 7 });
     assert_eq!(rt; vop.lookup(&VData::Empty), refused);
+    Ok(())
+}
+
+#[test]
+fn the_name_of_a_directory(rt: HostRuntime) -> Result<(), Fail> {
+    let alloc = rt.alloc();
+    let fs = with_dir(alloc)?;
+    assert_eq!(rt; fs.name_of(2), Some(&Name::new(alloc, b"dir")?));
+    assert!(rt; fs.name_of(1).is_none());
+    assert!(rt; fs.name_of(3).is_none());
+    Ok(())
+}
+
+#[test]
+fn the_name_of_a_renamed_directory(rt: HostRuntime) -> Result<(), Fail> {
+    let alloc = rt.alloc();
+    let mut fs = with_dir(alloc)?;
+    let new = Name::new(alloc, b"new")?;
+    rename(
+        alloc,
+        &mut fs,
+        1,
+        &Name::new(alloc, b"dir")?,
+        1,
+        &new,
+        false,
+    )?;
+    assert_eq!(rt; fs.name_of(2), Some(&new));
+    Ok(())
+}
+
+#[test]
+fn the_name_of_a_removed_directory(rt: HostRuntime) -> Result<(), Fail> {
+    let alloc = rt.alloc();
+    let mut fs = with_dir(alloc)?;
+    remove(alloc, &mut fs, 1, &Name::new(alloc, b"dir")?, false)?;
+    assert!(rt; fs.name_of(2).is_none());
     Ok(())
 }

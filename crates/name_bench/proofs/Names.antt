@@ -1,20 +1,31 @@
 -- What a name gives after an edit, and how many names give a file.
-use Rattle.std.proofs.Common.{◌≡◌, ℕ, ◌+◌, ◌<◌, ◌≤◌, true, List, [], length, take, get_or, zero, suc, refl, ap, sym, ◌∙◌, arith, eq-eqb}
+use Rattle.std.proofs.Common.{◌≡◌, ℕ, ◌+◌, ◌<◌, ◌≤◌, true, false, List, [], length, take, get_or, zero, suc, refl, ap, sym, ◌∙◌, arith, eq-eqb}
 use Rattle.std.proofs.Math.Nat.{le_refl}
 use Rattle.std.proofs.lemmas.List.{take_all}
 use Rattle.std.proofs.lemmas.List.Elements.{All-more}
 use Rattle.std.proofs.lemmas.List.Sums.{count_by_more_yes}
-use Rattle.std.specs.Prelude.{Option, Some}
+use Rattle.std.specs.Prelude.{Option, Some, None, option_map}
 use Rattle.std.specs.List.{All, count_by}
 use Rattle.std.specs.FinMap.{get}
+use Rattle.vfs_tree.specs.Nodes.{is_dir_node}
 use Rattle.vfs_tree.specs.StoreEdits.{entry_of, set_entry}
+use Rattle.vfs_tree.specs.Views.{kind_of_node}
+use Rattle.vfs_tree.specs.declared.node.Kind.TheVariants as kind
+use Rattle.vfs_tree.specs.declared.node.Node.{Node}
+use Rattle.vfs_tree.specs.declared.node.Node.TheVariants.{Dir, File, Link}
 use Rattle.vfs_tree.specs.declared.node.NameEntry.{NameEntry}
 use Rattle.vfs_tree.specs.declared.node.NameEntry.TheVariants.{Ino}
 use Rattle.vfs_tree.specs.declared.node.Store.{Store}
 use Rattle.call_laws.proofs.DropLaws.{set_at, set_case}
 use Rattle.mem_fs.specs.FileSystem.{IsLinkedDir}
 use Rattle.name_bench.specs.Found.{gives}
-use Rattle.name_bench.proofs.Told.{dir_kind}
+
+-- the kind of a directory
+dir_kind : (o : Option Node) → is_dir_node o ≡ true → option_map kind_of_node o ≡ Some kind.Dir
+dir_kind (Some (Dir parent opaque names)) h = refl
+dir_kind (Some (File bytes)) h = absurd (let clash : false ≡ true = h in cc)
+dir_kind (Some (Link target)) h = absurd (let clash : false ≡ true = h in cc)
+dir_kind None h = absurd (let clash : false ≡ true = h in cc)
 
 -- a name that was set gives the node
 pub gives_set : (t u : Store) (d i : ℕ) (n : List ℕ) → IsLinkedDir t d → u ≡ set_entry t d n (Ino i) → entry_of u d n ≡ Some (Ino i)

@@ -6,7 +6,6 @@
 
 ghost use Rattle.std.specs.Prelude.{◌≤◌, IfSome};
 
-mod checks;
 mod fault;
 mod rounds;
 #[cfg(test)]

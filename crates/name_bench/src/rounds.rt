@@ -4,10 +4,9 @@ ghost use Rattle.vfs_tree.specs.StoreEdits.{entry_of};
 ghost use Rattle.vfs_tree.specs.declared.node.NameEntry.TheVariants.{Ino};
 ghost use Rattle.name_bench.specs.Found.{gives};
 
-use crate::checks::{gives_bare, is_given, is_linked_dir, is_no_dir};
 use crate::fault::Fault;
 use finite_maps::Duplicate;
-use mem_fs::{MemFs, NewNode};
+use mem_fs::{MemFs, NewNode, gives_bare, is_given, is_linked_dir, is_no_dir};
 use std::alloc::Global;
 use turn_order::mix;
 use vfs_tree::{Name, NameEntry};
@@ -97,7 +96,7 @@ fn find_each(fs: &mut MemFs, file: u32, names: &[Name]) -> u64
 /// Removes the name of the root directory, as unlink(2).
 fn remove(alloc: Global, fs: &mut MemFs, name: &Name) -> Result<(), Fault> {
     let entry = fs.find(ROOT, name);
-    if !gives_bare(fs, entry) || !is_linked_dir(fs, ROOT) {
+    if !gives_bare(alloc, fs, entry)? || !is_linked_dir(fs, ROOT) {
         return Err(Fault::Unmet);
     }
     fs.remove(alloc, ROOT, name, false)?;

@@ -2,6 +2,7 @@ use Rattle.std.proofs.Common.{◌≡◌, ap, sym, subst, ◌∙◌, refl}
 use Rattle.std.specs.Prelude.{Some}
 use Rattle.vfs_tree.specs.Nodes.{entry_in, is_given, is_white}
 use Rattle.mem_fs.specs.Contents.{reads_of, reserved_of}
+use Rattle.mem_fs.specs.Named.{parent_in}
 use Rattle.mem_fs.specs.NewNodes.{new_node, new_reads, new_reserved}
 use Rattle.mem_fs.specs.Inodes.{Inodes, with_new}
 use Rattle.mem_fs.specs.FileSystem.{FileSystem, seen}
@@ -10,7 +11,7 @@ use Rattle.mem_fs.proofs.Seen.{kept-like, none_next, nodes-made, kept-made, read
 use Rattle.mem_fs.proofs.Looks.{find_found}
 use Rattle.mem_fs.proofs.Rooms.{dir_below}
 use Rattle.mem_fs.proofs.KeptLaws as laws
-use Rattle.mem_fs.proofs.Calls.{dir_of, linked_of, not_given, new_bare, room_made, even_err}
+use Rattle.mem_fs.proofs.Calls.{dir_of, linked_of, not_given, new_bare, new_known, room_made, even_err}
 use Rattle.mem_fs.proofs.fs.MemFs.make.Goals as goal
 
 pub invariant_of-self : goal.invariant_of-self
@@ -36,6 +37,9 @@ invariant_of-self-2 c =
     let kept : IsKept n next = kept-like c.self.inside.nodes n next c.make_room.ensures.like c.self.invariant in
     laws.kept-made n _ _ next _ c.args.dir c.args.name kept (none_next n next kept) refl
     (λ name. ap (λ x. is_given (entry_in name (Some x))) c.in_ok-content.ensures.shown ∙ new_bare c.args.dir c.is_white-white.result c.args.node name)
+    (λ p at.
+    let own = new_known c.args.dir c.is_white-white.result c.args.name c.args.node p (sym (ap (λ x. parent_in (Some x)) c.in_ok-content.ensures.shown) ∙ at) in
+    (own.0, c.in_ok-content.ensures.name ∙ own.1))
     (dir_below n next c.args.dir v is kept c.requires.dir.dir) (not_given n next v c.args.dir c.args.name is c.requires.new)
     (dir_of n next v c.args.dir is c.requires.dir.dir) (linked_of n next v c.args.dir is kept c.requires.dir.linked) c.in_ok-insert.ensures.ok c.put.ensures
 

@@ -16,7 +16,7 @@ use Rattle.mem_fs.proofs.fs.MemFs.new.Goals as goal
 pub invariant_of-result : goal.invariant_of-result
 invariant_of-result c =
     let x : Inode = record { links = 0; content = held.Dir 1 false None c.new.result } in
-    kept-first x c.insert.new.self refl (λ n. ap (λ (m : Names). is_given (get m n)) c.new.ensures.names ∙ ap is_given (get-empty name_cmp n))
+    kept-first x c.insert.new.self refl (λ n. ap (λ (m : Names). is_given (get m n)) c.new.ensures.names ∙ ap is_given (get-empty name_cmp n)) refl
     (c.in_ok-insert.ensures.ok ∙ ap (λ (m : Inodes). insert m 1 x) c.new-nodes.ensures)
 
 pub returns-clause-store : goal.returns-clause-store
