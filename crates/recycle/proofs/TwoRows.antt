@@ -49,6 +49,14 @@ module _ (first : List Vid) (v : Vid) (rows : List (List Vid)) (is : rows ≡ fi
   pub second_some : 0 < length (row_in rows 1)
   second_some = subst (λ r. 0 < length (row_in r 1)) (sym is) (omega arith)
 
+  -- and is emptied
+  pub second_emptied : slice_set rows 1 [] ≡ first ∷ [] ∷ []
+  second_emptied = subst (λ r. slice_set r 1 [] ≡ first ∷ [] ∷ []) (sym is) refl
+
+module _ (v : Vid) (rows : List (List Vid)) (is : rows ≡ (v ∷ []) ∷ [] ∷ []) where
+  pub first_some : 0 < length (row_in rows 0)
+  first_some = subst (λ r. 0 < length (row_in r 0)) (sym is) (omega arith)
+
 -- nothing stands before the only element of a list
 alone : (v w : Vid) (row : List Vid) → v ∷ [] ≡ row ++ w ∷ [] → row ≡ []
 alone v w [] e = refl

@@ -2,7 +2,7 @@ ghost use Rattle.std.specs.Prelude.{◌≡◌, ◌≢◌, ◌<◌, ◌-◌, ◌^
 ghost use Rattle.std.specs.Option.{option_copied};
 ghost use Rattle.op_vector.specs.declared.data.VData.TheVariants.{Empty};
 ghost use Rattle.vnode_rec.specs.Identity.{identity};
-ghost use Rattle.vnode_rec.specs.Vnodes.{identity_at, EachSlot, HasRoom, HasNone, IsCurrent, IsMatched, WasGiven, Grows};
+ghost use Rattle.vnode_rec.specs.Vnodes.{data_at, identity_at, EachSlot, HasRoom, HasNone, IsCurrent, IsMatched, WasGiven, Grows};
 
 use finite_maps::Duplicate;
 use op_vector::{VData, Vid, Vop};
@@ -40,6 +40,7 @@ pub fn new_vnode<B: Vop>(
     ensures always { name.entry ≡ None → EachSlot (λ s slot. slot.generation ≢ 2 ^ 64 - 1) table.old.slots → IsOk result }
     ensures err { OnErr result (table.new ≡ table.old) }
     ensures found { IfOk result (λ vid. identity_at table.new vid ≡ Some (identity vd (option_copied name.entry))) }
+    ensures vdata { IfOk result (λ vid. data_at table.new vid ≡ Some vd) }
     ensures current { IfOk result (λ vid. IsCurrent table.new vid) }
 
     // No vnode that was there before is given again, and those that are held stay as they are.

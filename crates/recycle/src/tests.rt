@@ -11,8 +11,9 @@ use op_vector::{BoxedVop, Op, Rack, RackOf, Route, VData, VKind, Vid, Vop};
 use std::alloc::{AllocError, Global};
 use std::sync::Arc;
 use std::sync::atomic::{AtomicU64, Ordering};
+use std::test::Fail;
 use union_fs::UnionVop;
-use vfs_tree::Errno;
+use vfs_tree::{Errno, Name};
 use vnode_rec::{Fell, VnodeTableOf};
 
 // Whether each list has eighteen vectors.
@@ -185,6 +186,107 @@ fn run_through<B: Vop>(alloc: Global, rack: RackOf<B>) -> Result<Seen, AllocErro
     })
 }
 
+// How many use rows and how many rows have the vnode.
+fn counts<B: Vop>(table: &VnodeTableOf<B>, vid: Vid) -> Option<[u64; 2]> {
+    match table.data_of(vid) {
+        Some(_) => Some([table.use_count(vid), table.hold_count(vid)]),
+        None => None,
+    }
+}
+
+// Puts the vnode of row 0 on row 1 too, counts, and empties row 1.
+#[tactic(auto, using(crate::proofs::TwoRows::second_is, crate::proofs::TwoRows::second_short, crate::proofs::TwoRows::second_taken, crate::proofs::TwoRows::second_there, crate::proofs::TwoRows::second_emptied))]
+fn hold_twice<B: Vop>(table: &mut VnodeTableOf<B>, held: Vid) -> Option<[u64; 2]>
+    requires matched { IsMatched B.vkind table.old }
+    requires rows { table.old.rows ≡ (held ∷ []) ∷ [] ∷ [] }
+    requires uses { table.old.uses ≡ 1 }
+    ensures matched { IsMatched B.vkind table.new }
+    ensures rows { table.new.rows ≡ (held ∷ []) ∷ [] ∷ [] }
+    ensures uses { table.new.uses ≡ 1 }
+{
+    table.data_of(held)?;
+    table.vhold(1, held);
+    let both = counts(table, held);
+    table.empty_row(1);
+    both
+}
+
+// Makes the vnode of a name that is in the lower layer alone, whose lower vnode is that of row 0.
+fn name_lower<B: Vop>(
+    alloc: Global,
+    table: &mut VnodeTableOf<B>,
+    lower: Vid,
+    name: &Name,
+) -> Result<Vid, AllocError>
+    requires matched { IsMatched B.vkind table.old }
+    requires room { HasRoom table.old.rows }
+    ensures matched { IsMatched B.vkind table.new }
+    ensures rows { table.new.rows ≡ table.old.rows }
+    ensures uses { table.new.uses ≡ table.old.uses }
+{
+    let vd = VData::Union {
+        mount: 1,
+        ino: 1,
+        upper: None,
+        lower: Some(lower),
+        at: 0,
+    };
+    match table.find(&vd, Some(name)) {
+        Some(_) => Err(AllocError),
+        None => new_vnode(alloc, table, vd, Some(name)),
+    }
+}
+
+// Gives a union's vnode another pair, with the same lower vnode.
+fn pair_anew<B: Vop>(table: &mut VnodeTableOf<B>, vid: Vid, upper: Vid) -> Option<VData> {
+    let lower = match table.data_of(vid) {
+        Some(VData::Union { lower, .. }) => *lower,
+        _ => return None,
+    };
+    table.set_pair(vid, Some(upper), lower, 7);
+    table.data_of(vid).copied()
+}
+
+// Whether the vnode has the name, and the other one has none.
+fn has_name<B: Vop>(table: &VnodeTableOf<B>, vid: Vid, name: &Name, other: Vid) -> bool {
+    table.name_of(vid) == Some(name) && table.name_of(other).is_none()
+}
+
+// What the test of a named vnode looks at.
+#[derive(Drop)]
+struct Named {
+    held: Vid,
+    once: Option<[u64; 2]>,
+    twice: Option<[u64; 2]>,
+    fell: Fell,
+    none: Option<[u64; 2]>,
+    is_named: [bool; 2],
+    pair: Option<VData>,
+}
+
+#[tactic(auto, using(crate::proofs::TwoRows::first_some, crate::proofs::TwoRows::second_has_room))]
+fn run_named<B: Vop>(alloc: Global, rack: RackOf<B>) -> Result<Named, Fail> {
+    let name = Name::new(alloc, b"name")?;
+    let mut table = table_of(alloc, rack)?;
+    let held = hold_root(alloc, &mut table)?;
+    let once = counts(&table, held);
+    let twice = hold_twice(&mut table, held);
+    let vid = name_lower(alloc, &mut table, held, &name)?;
+    let was_named = has_name(&table, vid, &name, held);
+    let fell = table.vrele(0);
+    let none = counts(&table, held);
+    let pair = pair_anew(&mut table, vid, held);
+    Ok(Named {
+        held,
+        once,
+        twice,
+        fell,
+        none,
+        is_named: [was_named, has_name(&table, vid, &name, held)],
+        pair,
+    })
+}
+
 // The list of one vector.
 fn list_of<B: Drop>(alloc: Global, vector: B) -> Result<Vec<B>, AllocError>
     ensures { IfOk result (λ list. list.items ≡ vector ∷ []) }
@@ -226,28 +328,40 @@ fn a_rack_of_boxes_is_proper(rt: HostRuntime) -> Result<(), AllocError> {
     Ok(())
 }
 
+// Eighteen boxes with this vector.
+macro_rules! vectors {
+    ($alloc:expr, $vector:expr) => {{
+        let mut vectors: Vec<BoxedVop> = Vec::new($alloc);
+        for _ in 0..18 {
+            let boxed: BoxedVop = Box::new($alloc, $vector)?;
+            vectors.push(boxed)?;
+        }
+        vectors
+    }};
+}
+
+// A rack of eighteen boxes of each kind. Those of kind Mem count with this counter how often they are asked.
+macro_rules! rack {
+    ($alloc:expr, $asked:expr) => {
+        Rack::new(
+            vectors!(
+                $alloc,
+                CountingVop {
+                    asked: Arc::try_clone(&$asked)?
+                }
+            ),
+            vectors!($alloc, NullVop),
+            vectors!($alloc, UnionVop),
+            vectors!($alloc, DeadVop),
+        )
+    };
+}
+
 #[test]
 fn forty_vnodes_share_the_slots_beside_one(rt: HostRuntime) -> Result<(), AllocError> {
     let alloc = rt.alloc();
     let asked = Arc::new(alloc, AtomicU64::new(0))?;
-    macro_rules! vectors {
-        ($vector:expr) => {{
-            let mut vectors: Vec<BoxedVop> = Vec::new(alloc);
-            for _ in 0..18 {
-                let boxed: BoxedVop = Box::new(alloc, $vector)?;
-                vectors.push(boxed)?;
-            }
-            vectors
-        }};
-    }
-    let rack = Rack::new(
-        vectors!(CountingVop {
-            asked: Arc::try_clone(&asked)?
-        }),
-        vectors!(NullVop),
-        vectors!(UnionVop),
-        vectors!(DeadVop),
-    );
+    let rack = rack!(alloc, asked);
     let seen = run_through(alloc, rack)?;
     assert!(rt; seen.went == 40);
     let here = Some(Route::Here { ino: 1 });
@@ -257,5 +371,28 @@ fn forty_vnodes_share_the_slots_beside_one(rt: HostRuntime) -> Result<(), AllocE
     assert!(rt; seen.doomed);
     let refused = [Errno::EIO, Errno::ENOTDIR, Errno::ENXIO];
     assert!(rt; seen.refused == refused.map(|errno| Some(Route::Refuse { errno })));
+    Ok(())
+}
+
+#[test]
+fn counts_of_a_vnode_and_a_vnode_with_a_name(rt: HostRuntime) -> Result<(), Fail> {
+    let alloc = rt.alloc();
+    let asked = Arc::new(alloc, AtomicU64::new(0))?;
+    let rack = rack!(alloc, asked);
+    let seen = run_named(alloc, rack)?;
+    assert!(rt; seen.once == Some([1, 1]));
+    assert!(rt; seen.twice == Some([1, 2]));
+    assert!(rt; seen.fell.vid == seen.held);
+    assert!(rt; seen.fell.unused && seen.fell.free);
+    assert!(rt; seen.none == Some([0, 0]));
+    assert!(rt; seen.is_named == [true, true]);
+    let pair = VData::Union {
+        mount: 1,
+        ino: 1,
+        upper: Some(seen.held),
+        lower: Some(seen.held),
+        at: 7,
+    };
+    assert!(rt; seen.pair == Some(pair));
     Ok(())
 }
