@@ -1,11 +1,17 @@
-ghost use Rattle.std.specs.Prelude.{◌≡◌, ℕ, List, Some, false};
+ghost use Rattle.std.specs.Prelude.{◌≡◌, ℕ, List, Option, Some, false};
 ghost use Rattle.vfs_tree.specs.Layers.{is_cut, kind_in, root_of};
 ghost use Rattle.vfs_tree.specs.Place.{Null, Seen};
 ghost use Rattle.vfs_tree.specs.Shown.{shown};
 ghost use Rattle.vfs_tree.specs.Sound.{IsSound};
 ghost use Rattle.vfs_tree.specs.Views.{facts_of};
 ghost use Rattle.vfs_tree.specs.declared.mount.MountKind.TheVariants as kind;
+ghost use Rattle.vfs_tree.specs.declared.node.Node.{Node};
+ghost use Rattle.vfs_tree.specs.declared.node.Store.{Store};
 ghost use Rattle.vfs_tree.specs.declared.world.World.{World};
+ghost use Rattle.call_model.specs.Checks.{drop_at, edit_at, make_at, node_of};
+ghost use Rattle.call_model.specs.DataRows.{resize_at};
+ghost use Rattle.call_model.specs.NameRows.{renamed_at};
+ghost use Rattle.call_model.specs.declared.target.Target.{Target};
 ghost use Rattle.call_laws.specs.Lasting.{IsLasting, IsOver, IsUncut};
 
 /// The tree that a null mount shows is that of its layer: a law of the model, with no code.
@@ -18,4 +24,22 @@ pub fn a_null_mount_shows_its_layer()
     ensures place { (w : World) (m : ℕ) (p : Seen) (ns : List (List ℕ))
         → IsSound w → IsLasting w → IsUncut (facts_of w) (Null m p) → IsOver (facts_of w) (Null m p)
         → shown w (Null m p) ns ≡ shown w p ns }
+{}
+
+/// An edit of a file or of names through a null mount is the edit of its layer: a law of the model, with no code.
+pub fn an_edit_through_a_null_mount_is_that_of_its_layer()
+    // A place in it stands for the node that the place stands for which is seen through it.
+    ensures node { (w : World) (m : ℕ) (p : Seen) → node_of w (Null m p) ≡ node_of w p }
+    // So an edit of that node is one edit, whatever it is.
+    ensures edit { (w : World) (m : ℕ) (p : Seen) (edit : Store → ℕ → Store) → edit_at w (Null m p) edit ≡ edit_at w p edit }
+    // A node is made at a name, or refused, as it is in the layer.
+    ensures made { (w : World) (m : ℕ) (d : Seen) (n : List ℕ) (node : Node) → make_at w (Null m d) n node ≡ make_at w d n node }
+    // A name is dropped, with a whiteout or without one, as it is there.
+    ensures dropped { (w : World) (m : ℕ) (d : Seen) (n : List ℕ) → drop_at w (Null m d) n ≡ drop_at w d n }
+    // A name is moved from one directory to another as it is there.
+    ensures renamed { (w : World) (m : ℕ) (from to : Seen) (n new : List ℕ) (child : Option Seen)
+        → renamed_at w (Null m from) n (record { dir = Null m to; name = new; child = child })
+        ≡ renamed_at w from n (record { dir = to; name = new; child = child }) }
+    // A file gets a length as it does there.
+    ensures resized { (w : World) (m : ℕ) (p : Seen) (len : ℕ) → resize_at w (Null m p) len ≡ resize_at w p len }
 {}
