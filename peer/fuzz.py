@@ -8,9 +8,9 @@ fuzz.py legal PROGRAM SEED COUNT [run|seed]
                                      `run --seed S` is legal and its trees are the
                                      replay's, whatever the turns were; `run --order` too
 fuzz.py badlines PROGRAM SEED COUNT   the same with scripts that are damaged in one place
-fuzz.py judge SCRIPT OUTPUT STATUS   what PROGRAM wrote for one script with `run --order`, where one
-                                     allocation was refused, is that of a legal history, or with status 12
-                                     a front of what it writes else
+fuzz.py judge SCRIPT OUTPUT STATUS   what PROGRAM wrote for one script is that of a legal history, whatever the
+                                     turns were; or with status 12, where `run --order` was refused an
+                                     allocation, a front of what it writes else
 fuzz.py stats SEED COUNT             what the model answers on such scripts"""
 import collections
 import os
@@ -500,12 +500,15 @@ def illegal(script, out):
         return 'the output has not its form: ' + clip(out)
     at = lines.index(b'trees')
     doomed = set()                       # callers with a Doom entry since their last call entry
+
+    def until(i, why):
+        return '\n'.join('    ' + clip(x, 200) for x in lines[:i + 1]) + '\n  entry: ' + clip(lines[i + 1]) + why
+
     for i, l in enumerate(lines[1:at]):
-        so_far = '\n'.join('    ' + clip(x, 200) for x in lines[:i + 1]) + '\n  entry: ' + clip(l)
         head = l.split(b' ', 2)
         c = int(head[0]) if head[0].isdigit() else 0
         if not left.get(c):
-            return so_far + '\n  no call of that caller is left'
+            return until(i, '\n  no call of that caller is left')
         call, text = left[c][0]
         inner = head[1:2] == [b'+']
         try:
@@ -521,11 +524,11 @@ def illegal(script, out):
                     doomed.add(c)
                 continue
         if want[0] == 'inner':
-            return so_far + '\n  model needs: ' + clip(want[1])
+            return until(i, '\n  model needs: ' + clip(want[1]))
         if l != text + b' = ' + want[1]:
-            return so_far + '\n  model answers: ' + clip(text + b' = ' + want[1])
+            return until(i, '\n  model answers: ' + clip(text + b' = ' + want[1]))
         if want[1] == b'error ENOMEM' and (c in w.leaving or c in doomed):
-            return so_far + '\n  no ENOMEM is legal here'
+            return until(i, '\n  no ENOMEM is legal here')
         doomed.discard(c)
         left[c].pop(0)
     if any(left.values()):
@@ -558,7 +561,7 @@ def legal(program, seed, count, form='seed'):
 
 
 def judge(script, out, status):
-    """Looks at one run in which one allocation was refused."""
+    """Looks at one run: of threads, or one in which an allocation was refused."""
     if status == 12:
         why = None if by_model(script)[1].startswith(out) else 'no front of the output: ' + clip(out)
     else:

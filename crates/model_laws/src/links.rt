@@ -7,8 +7,8 @@ ghost use Rattle.vfs_tree.specs.declared.node.NameEntry.TheVariants.{Ino};
 ghost use Rattle.vfs_tree.specs.declared.world.World.{World};
 ghost use Rattle.model_laws.specs.Named.{IsNamedAbove};
 
-/// A directory is linked exactly where a name of its parent gives it: a law of the model, with no code. So it is looked
-/// for there, and not through the whole store.
+/// A directory is linked exactly where a name of its parent gives it: a law of the model, with no code. So what its
+/// parent has tells it, and no other directory of the store does.
 pub fn a_directory_is_linked_where_its_parent_names_it()
     // A linked directory other than the root has a name in its parent.
     ensures named { (w : World) (s i : ℕ)
