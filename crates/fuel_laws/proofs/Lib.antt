@@ -9,3 +9,4 @@ pub mod StepLaws
 pub mod OpenLaws
 pub mod OthersLaws
 pub mod PendingLaws
+pub mod CallsLaws

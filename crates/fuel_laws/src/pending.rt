@@ -2,7 +2,7 @@ ghost use Rattle.std.specs.Prelude.{◌≡◌, ◌==◌, ◌∷◌, ◌++◌, []
 ghost use Rattle.std.specs.FinMap.{get};
 ghost use Rattle.vfs_tree.specs.declared.world.World.{World};
 ghost use Rattle.call_model.specs.Apply.{Needs, apply};
-ghost use Rattle.call_model.specs.Legal.{Pending, IsLegal, MayAnswer, doomers_in, replay};
+ghost use Rattle.call_model.specs.Legal.{Pending, IsLegal, MayAnswer, calls_of, doomers_in, replay};
 ghost use Rattle.call_model.specs.declared.call.Call.{Call};
 ghost use Rattle.call_model.specs.declared.entry.Entry.{Entry};
 ghost use Rattle.call_model.specs.declared.entry.Entry.TheVariants as entry;
@@ -33,4 +33,17 @@ pub fn an_entry_ends_its_own_call()
         → (d == c) ≡ false → get (pending_before p (entry.Call c call r ∷ es)) d ≡ get (pending_before p es) d }
     ensures behind_inner { (p : Pending) (es : List Entry) (c : ℕ) (x : Inner)
         → pending_before p (entry.Inner c x ∷ es) ≡ pending_before p es }
+{}
+
+/// A history has each caller's calls in their order: a law of the model, with no code.
+pub fn histories_keep_each_callers_calls()
+    // Of two histories, one behind the other, a caller has its calls in the first and then those in the second.
+    ensures joined { (c : ℕ) (es fs : List Entry) → calls_of c (es ++ fs) ≡ calls_of c es ++ calls_of c fs }
+    // After the entry of a call that call stands last among its caller's, and the others have the calls that they had.
+    ensures own { (es : List Entry) (c : ℕ) (call : Call) (r : Reply)
+        → calls_of c (es ++ entry.Call c call r ∷ []) ≡ calls_of c es ++ call ∷ [] }
+    ensures others { (es : List Entry) (c d : ℕ) (call : Call) (r : Reply)
+        → (d == c) ≡ false → calls_of d (es ++ entry.Call c call r ∷ []) ≡ calls_of d es }
+    // An inner entry is no call.
+    ensures inner { (es : List Entry) (c d : ℕ) (x : Inner) → calls_of d (es ++ entry.Inner c x ∷ []) ≡ calls_of d es }
 {}
