@@ -10,3 +10,4 @@ pub mod OpenLaws
 pub mod OthersLaws
 pub mod PendingLaws
 pub mod CallsLaws
+pub mod DoomLaws

@@ -1,6 +1,7 @@
--- What others do leaves what is open, and the mounts that are left.
+-- What others do leaves what is open, and the mounts that are left. What dooms leave.
 use Rattle.std.proofs.Common.{◌≡◌, ℕ, Bool, true, false, cond, ◌==◌, List, [], refl, ap, sym, ◌∙◌, subst}
 use Rattle.std.specs.Prelude.{Option, Some, None, option_map}
+use Rattle.std.specs.Cmp.{nat_cmp_total}
 use Rattle.std.specs.FinMap.{get}
 use Rattle.finite_maps.proofs.EntryLaws.{pair_total}
 use Rattle.vfs_tree.specs.Child.{child_of, child_below, low}
@@ -10,6 +11,7 @@ use Rattle.vfs_tree.specs.Place.{Seen, UnionUp, UnionLow}
 use Rattle.vfs_tree.specs.Views.{facts_of}
 use Rattle.vfs_tree.specs.declared.node.Node.{Node}
 use Rattle.vfs_tree.specs.declared.node.Node.TheVariants.{File}
+use Rattle.vfs_tree.specs.declared.open.Cwd.{Cwd}
 use Rattle.vfs_tree.specs.declared.open.Open.{Open}
 use Rattle.vfs_tree.specs.declared.walk.Child.{Child}
 use Rattle.vfs_tree.specs.declared.walk.Child.TheVariants as child
@@ -17,7 +19,7 @@ use Rattle.vfs_tree.specs.declared.walk.Step.TheVariants.{Go, Refuse, Wants}
 use Rattle.vfs_tree.specs.declared.world.World.{World}
 use Rattle.call_model.specs.Apply.{settle}
 use Rattle.call_model.specs.Checks.{Outcome, upper_store, node_of}
-use Rattle.call_model.specs.Effects.{made_above, turned_open, turned_opens, copy_of, copied_child, doomed_open, doomed_place, effect}
+use Rattle.call_model.specs.Effects.{made_above, turned_open, turned_opens, copy_of, copied_child, doomed_open, doomed_cwd, doomed_place, effect}
 use Rattle.call_model.specs.Legal.{after, is_no_memory, world_after}
 use Rattle.call_model.specs.Refs.{place_of}
 use Rattle.call_model.specs.Rows.{row}
@@ -30,7 +32,7 @@ use Rattle.call_laws.specs.Fitting.{Fits}
 use Rattle.call_laws.proofs.FlagLaws.{get_each}
 use Rattle.call_laws.proofs.LiveLaws.{alone-made_above}
 use Rattle.call_laws.proofs.RowLaws.{row_fits}
-use Rattle.fuel_laws.specs.Staying.{StaysButPlace, StaysButDead}
+use Rattle.fuel_laws.specs.Staying.{StaysButPlace, StaysButDead, KeepsPlace}
 use Rattle.fuel_laws.proofs.ApartLaws.{apart_call}
 
 -- ---- calls
@@ -103,3 +105,29 @@ doomed_at w k None = stays_alive (get w.opens k)
 
 pub open_doomed : (w : World) (c : ℕ) (at : Ref) (k : ℕ × ℕ) → StaysButDead (get w.opens k) (get (effect w c (Doom at)).opens k)
 open_doomed w c at k = doomed_at w k (place_of w at)
+
+pub open_doomed_at : (w : World) (c : ℕ) (at : Ref) (p : Seen) (k : ℕ × ℕ) → place_of w at ≡ Some p → get (effect w c (Doom at)).opens k ≡ option_map (doomed_open p) (get w.opens k)
+open_doomed_at w c at p k is = ap (λ o. get (doomed_place w o).opens k) is ∙ get_each pair_total (doomed_open p) w.opens k
+
+-- ---- current directories
+
+keeps_doomed : (p : Seen) (o : Option Cwd) → KeepsPlace o (option_map (doomed_cwd p) o)
+keeps_doomed p (Some x) = refl
+keeps_doomed p None = tt
+
+keeps_alive : (o : Option Cwd) → KeepsPlace o o
+keeps_alive (Some x) = refl
+keeps_alive None = tt
+
+keeps_at : (w : World) (d : ℕ) (o : Option Seen) → KeepsPlace (get w.cwds d) (get (doomed_place w o).cwds d)
+keeps_at w d (Some p) = subst (KeepsPlace (get w.cwds d)) (sym (get_each nat_cmp_total (doomed_cwd p) w.cwds d)) (keeps_doomed p (get w.cwds d))
+keeps_at w d None = keeps_alive (get w.cwds d)
+
+pub cwd_doomed : (w : World) (c d : ℕ) (at : Ref) → KeepsPlace (get w.cwds d) (get (effect w c (Doom at)).cwds d)
+cwd_doomed w c d at = keeps_at w d (place_of w at)
+
+pub cwd_doomed_at : (w : World) (c d : ℕ) (at : Ref) (p : Seen) → place_of w at ≡ Some p → get (effect w c (Doom at)).cwds d ≡ option_map (doomed_cwd p) (get w.cwds d)
+cwd_doomed_at w c d at p is = ap (λ o. get (doomed_place w o).cwds d) is ∙ get_each nat_cmp_total (doomed_cwd p) w.cwds d
+
+pub none_doomed : (w : World) (c : ℕ) (at : Ref) → place_of w at ≡ None → effect w c (Doom at) ≡ w
+none_doomed w c at is = ap (doomed_place w) is

@@ -1,5 +1,6 @@
--- What stays of an open file when others copy and doom.
+-- What stays of an open file or a current directory when others copy and doom.
 use Rattle.std.specs.Prelude.{◌≡◌, Option, Some, None}
+use Rattle.vfs_tree.specs.declared.open.Cwd.{Cwd}
 use Rattle.vfs_tree.specs.declared.open.Open.{Open}
 
 -- all but its place
@@ -15,3 +16,10 @@ StaysButDead (Some old) (Some new) = (new.place ≡ old.place) × (new.offset �
 StaysButDead (Some old) None = ⊥
 StaysButDead None (Some new) = ⊥
 StaysButDead None None = Unit {0}
+
+-- a current directory keeps its place
+abbrev pub KeepsPlace : Option Cwd → Option Cwd → Type 0
+KeepsPlace (Some old) (Some new) = new.place ≡ old.place
+KeepsPlace (Some old) None = ⊥
+KeepsPlace None (Some new) = ⊥
+KeepsPlace None None = Unit {0}

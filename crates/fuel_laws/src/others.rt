@@ -1,5 +1,6 @@
-ghost use Rattle.std.specs.Prelude.{◌≡◌, ◌==◌, ℕ, List, false, option_map};
+ghost use Rattle.std.specs.Prelude.{◌≡◌, ◌==◌, ℕ, List, Some, None, false, option_map, true};
 ghost use Rattle.std.specs.FinMap.{get};
+ghost use Rattle.std.specs.List.{list_any};
 ghost use Rattle.vfs_tree.specs.Child.{child_below, child_of, low};
 ghost use Rattle.vfs_tree.specs.Nodes.{next_of};
 ghost use Rattle.vfs_tree.specs.Place.{Seen, UnionLow, UnionUp};
@@ -7,8 +8,9 @@ ghost use Rattle.vfs_tree.specs.Views.{facts_of};
 ghost use Rattle.vfs_tree.specs.declared.walk.Child.TheVariants as child;
 ghost use Rattle.vfs_tree.specs.declared.world.World.{World};
 ghost use Rattle.call_model.specs.Checks.{upper_store};
-ghost use Rattle.call_model.specs.Effects.{effect, turned_open};
-ghost use Rattle.call_model.specs.Legal.{Pending, after};
+ghost use Rattle.call_model.specs.Effects.{doomed_cwd, doomed_open, effect, turned_open};
+ghost use Rattle.call_model.specs.Legal.{Pending, after, doomers_after};
+ghost use Rattle.call_model.specs.Refs.{place_of};
 ghost use Rattle.call_model.specs.declared.call.Call.{Call};
 ghost use Rattle.call_model.specs.declared.entry.Entry.TheVariants as entry;
 ghost use Rattle.call_model.specs.declared.entry.Inner.{Inner};
@@ -16,7 +18,7 @@ ghost use Rattle.call_model.specs.declared.entry.Inner.TheVariants.{CopyUp, Deta
 ghost use Rattle.call_model.specs.declared.entry.Ref.{Ref};
 ghost use Rattle.call_model.specs.declared.reply.Reply.{Reply};
 ghost use Rattle.fuel_laws.specs.Ended.{pending_after};
-ghost use Rattle.fuel_laws.specs.Staying.{StaysButDead, StaysButPlace};
+ghost use Rattle.fuel_laws.specs.Staying.{KeepsPlace, StaysButDead, StaysButPlace};
 
 /// What one caller's calls leave of what is another's: a law of the model, with no code.
 pub fn others_keep_what_is_theirs()
@@ -46,7 +48,37 @@ pub fn inner_entries_keep_open_files()
         ≡ option_map (turned_open (UnionLow m u n q) (UnionUp m (next_of (get w.stores (upper_store w m))))) (get w.opens k) }
     // A doom leaves all but whether they are dead.
     ensures doom { (w : World) (c : ℕ) (at : Ref) (k : ℕ × ℕ) → StaysButDead (get w.opens k) (get (effect w c (Doom at)).opens k) }
+    // Dead are then those that were, and those at the place of what is doomed.
+    ensures doomed { (w : World) (c : ℕ) (at : Ref) (p : Seen) (k : ℕ × ℕ) → place_of w at ≡ Some p
+        → get (effect w c (Doom at)).opens k ≡ option_map (doomed_open p) (get w.opens k) }
     // None changes which mounts others are leaving, or which calls are pending.
     ensures leaving { (w : World) (c d : ℕ) (x : Inner) → (d == c) ≡ false → get (effect w c x).leaving d ≡ get w.leaving d }
     ensures pending { (p : Pending) (c : ℕ) (x : Inner) → pending_after p (entry.Inner c x) ≡ p }
+{}
+
+/// What a doom leaves of current directories: a law of the model, with no code. The other inner entries leave them.
+pub fn a_doom_keeps_current_directories()
+    // It leaves each caller's all but whether it is dead,
+    ensures doom { (w : World) (c d : ℕ) (at : Ref) → KeepsPlace (get w.cwds d) (get (effect w c (Doom at)).cwds d) }
+    // and dead are then those that were, and those at the place of what is doomed.
+    ensures doomed { (w : World) (c d : ℕ) (at : Ref) (p : Seen) → place_of w at ≡ Some p
+        → get (effect w c (Doom at)).cwds d ≡ option_map (doomed_cwd p) (get w.cwds d) }
+    // A doom of what isn't there leaves the world.
+    ensures none { (w : World) (c : ℕ) (at : Ref) → place_of w at ≡ None → effect w c (Doom at) ≡ w }
+{}
+
+/// Dooms count for their caller, until its next call entry: a law of the model, with no code. So an entry of one caller
+/// leaves whether another's call may find no memory.
+pub fn dooms_count_for_their_caller()
+    // A caller that dooms has doomed something, and after the entry of its call it has not.
+    ensures doom { (doomers : List ℕ) (c : ℕ) (at : Ref)
+        → list_any (λ k. k == c) (doomers_after doomers (entry.Inner c (Doom at))) ≡ true }
+    ensures ended { (doomers : List ℕ) (c : ℕ) (call : Call) (r : Reply)
+        → list_any (λ k. k == c) (doomers_after doomers (entry.Call c call r)) ≡ false }
+    // Whether another caller has is as before, after a call
+    ensures call { (doomers : List ℕ) (c d : ℕ) (call : Call) (r : Reply) → (d == c) ≡ false
+        → list_any (λ k. k == d) (doomers_after doomers (entry.Call c call r)) ≡ list_any (λ k. k == d) doomers }
+    // and after an inner entry.
+    ensures inner { (doomers : List ℕ) (c d : ℕ) (x : Inner) → (d == c) ≡ false
+        → list_any (λ k. k == d) (doomers_after doomers (entry.Inner c x)) ≡ list_any (λ k. k == d) doomers }
 {}

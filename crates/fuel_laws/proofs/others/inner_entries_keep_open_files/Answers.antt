@@ -1,6 +1,6 @@
 use Rattle.std.proofs.Common.{refl}
 use Rattle.call_laws.proofs.LeavingLaws.{leaving-inner}
-use Rattle.fuel_laws.proofs.OthersLaws.{open_shadow, open_copied, open_turned, open_doomed}
+use Rattle.fuel_laws.proofs.OthersLaws.{open_shadow, open_copied, open_turned, open_doomed, open_doomed_at}
 use Rattle.fuel_laws.proofs.others.inner_entries_keep_open_files.Goals as goal
 
 pub returns-clause-shadow : goal.returns-clause-shadow
@@ -17,6 +17,9 @@ returns-clause-turned c = open_turned
 
 pub returns-clause-doom : goal.returns-clause-doom
 returns-clause-doom c = open_doomed
+
+pub returns-clause-doomed : goal.returns-clause-doomed
+returns-clause-doomed c = open_doomed_at
 
 pub returns-clause-leaving : goal.returns-clause-leaving
 returns-clause-leaving c = λ w c d x other. leaving-inner w c x d other
