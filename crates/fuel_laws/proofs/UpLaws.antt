@@ -108,6 +108,31 @@ lower_none f m u other = by (child_within m f) (kind_in f m) other
     by look (Some (kind.Union s upper lower)) e = no_way (sym e)
     by look None e = refl
 
+-- nothing is below one where the way up ends
+low_ends : (f : Facts) (look : Lookup) (s upper u : ℕ) (lower : Seen) (k : ℕ) → (u == upper) ≡ false → (is_opaque f s u || (u == 1)) ≡ true → low_within k f look s upper lower u ≡ child.Absent
+low_ends f look s upper u lower zero top end = refl
+low_ends f look s upper u lower (suc k) top end =
+    let up = low_within k f look s upper lower in
+    ap (λ b. low_case f look s lower up u b (is_opaque f s u || (u == 1))) top ∙ ap (λ b. low_case f look s lower up u false b) end
+
+none_either : (b : Bool) → cond b child.Absent child.Absent ≡ child.Absent
+none_either true = refl
+none_either false = refl
+
+pub part_ends : (f : Facts) (look : Lookup) (m u s upper : ℕ) (lower : Seen) → kind_in f m ≡ Some (kind.Union s upper lower) → (u == upper) ≡ false → (is_opaque f s u || (u == 1)) ≡ true → low_by f look u (kind_in f m) ≡ child.Absent
+part_ends f look m u s upper lower is top end =
+    ap (low_by f look u) is ∙ ap (λ a. cond (is_linked f s u) a child.Absent) (low_ends f look s upper u lower steps top end) ∙ none_either (is_linked f s u)
+
+pub part_opaque : (f : Facts) (look : Lookup) (m u s upper : ℕ) (lower : Seen) → kind_in f m ≡ Some (kind.Union s upper lower) → (u == upper) ≡ false → is_opaque f s u ≡ true → low_by f look u (kind_in f m) ≡ child.Absent
+part_opaque f look m u s upper lower is top opaque = part_ends f look m u s upper lower is top (ap (λ b. b || (u == 1)) opaque)
+
+pub part_root : (f : Facts) (look : Lookup) (m s upper : ℕ) (lower : Seen) → kind_in f m ≡ Some (kind.Union s upper lower) → (1 == upper) ≡ false → low_by f look 1 (kind_in f m) ≡ child.Absent
+part_root f look m s upper lower is top = part_ends f look m 1 s upper lower is top (or_true (is_opaque f s 1))
+  where
+    or_true : (b : Bool) → (b || true) ≡ true
+    or_true true = refl
+    or_true false = refl
+
 -- ---- trees
 
 pub shown_lower_whole : (w : World) → IsSound w → IsLasting w → (m u s upper : ℕ) (lower : Seen) → kind_in (facts_of w) m ≡ Some (kind.Union s upper lower) → is_linked (facts_of w) s u ≡ true

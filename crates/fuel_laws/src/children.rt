@@ -56,6 +56,11 @@ pub fn lower_parts_are_found_whole()
     ensures none { (f : Facts) (m u : ℕ) → is_union (kind_in f m) ≡ false → low f m u ≡ child.Absent }
     ensures removed { (f : Facts) (m u s upper : ℕ) (lower : Seen)
         → kind_in f m ≡ Some (kind.Union s upper lower) → is_linked f s u ≡ false → low f m u ≡ child.Absent }
+    // Nothing is below an opaque directory, or the root of a store, unless it is the upper layer's own.
+    ensures opaque { (f : Facts) (m u s upper : ℕ) (lower : Seen) → kind_in f m ≡ Some (kind.Union s upper lower)
+        → (u == upper) ≡ false → is_opaque f s u ≡ true → low f m u ≡ child.Absent }
+    ensures root { (f : Facts) (m s upper : ℕ) (lower : Seen) → kind_in f m ≡ Some (kind.Union s upper lower)
+        → (1 == upper) ≡ false → low f m 1 ≡ child.Absent }
     // The lower layer is below the upper one, nothing below an opaque directory or the root of a store, and below another
     // what the lower part of its parent has at its name, where that is a directory.
     ensures linked { (w : World) → IsSound w → IsLasting w → IsLayered w → (m u s upper : ℕ) (lower : Seen)
@@ -81,6 +86,11 @@ pub fn trees_are_shown_whole()
         → kind_in (facts_of w) m ≡ Some (kind.Union s upper lower) → is_linked (facts_of w) s u ≡ true
         → shown_lower (facts_of w) m u
         ≡ low_case (facts_of w) (shown_child (facts_of w)) s lower (shown_lower (facts_of w) m) u (u == upper) (is_opaque (facts_of w) s u || (u == 1)) }
+    // An opaque directory, or the root of a store, shows nothing of the lower layer, unless it is the upper layer's own.
+    ensures opaque { (f : Facts) (m u s upper : ℕ) (lower : Seen) → kind_in f m ≡ Some (kind.Union s upper lower)
+        → (u == upper) ≡ false → is_opaque f s u ≡ true → shown_lower f m u ≡ child.Absent }
+    ensures root { (f : Facts) (m s upper : ℕ) (lower : Seen) → kind_in f m ≡ Some (kind.Union s upper lower)
+        → (1 == upper) ≡ false → shown_lower f m 1 ≡ child.Absent }
     // What is shown is falling, as its directory is.
     ensures falling { (w : World) → IsSound w → IsLayered w → (d p : Seen) (n : List ℕ)
         → IsFalling d → shown_child (facts_of w) d n ≡ child.At p → IsFalling p }

@@ -1,6 +1,7 @@
 use Rattle.std.proofs.Common.{refl}
+use Rattle.vfs_tree.specs.Shown.{shown_child}
 use Rattle.fuel_laws.proofs.LookLaws.{shown_null_whole, shown_union_whole, shown_falling}
-use Rattle.fuel_laws.proofs.UpLaws.{shown_lower_whole, shown_below}
+use Rattle.fuel_laws.proofs.UpLaws.{part_opaque, part_root, shown_lower_whole, shown_below}
 use Rattle.fuel_laws.proofs.children.trees_are_shown_whole.Goals as goal
 
 pub returns-clause-mem : goal.returns-clause-mem
@@ -14,6 +15,12 @@ returns-clause-union c = shown_union_whole
 
 pub returns-clause-lower : goal.returns-clause-lower
 returns-clause-lower c = shown_lower_whole
+
+pub returns-clause-opaque : goal.returns-clause-opaque
+returns-clause-opaque c = λ f. part_opaque f (shown_child f)
+
+pub returns-clause-root : goal.returns-clause-root
+returns-clause-root c = λ f. part_root f (shown_child f)
 
 pub returns-clause-falling : goal.returns-clause-falling
 returns-clause-falling c = shown_falling
