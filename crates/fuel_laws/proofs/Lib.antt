@@ -11,3 +11,4 @@ pub mod OthersLaws
 pub mod PendingLaws
 pub mod CallsLaws
 pub mod DoomLaws
+pub mod NullLaws

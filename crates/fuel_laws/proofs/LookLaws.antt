@@ -32,7 +32,7 @@ FallsIn k (child.Need x) = Unit {0}
 abbrev pub FallsSo : Lookup → Type 0
 FallsSo look = (d : Seen) (n : List ℕ) → IsFalling d → FallsIn (suc (mount_of d)) (look d n)
 
-falls_more : (j k : ℕ) (a : Child) → j ≤ k → FallsIn j a → FallsIn k a
+pub falls_more : (j k : ℕ) (a : Child) → j ≤ k → FallsIn j a → FallsIn k a
 falls_more j k (child.At p) most h = let less : mount_of p < j = h.1 in (h.0, omega (arith, most, less))
 falls_more j k child.Absent most h = tt
 falls_more j k (child.Need x) most h = tt

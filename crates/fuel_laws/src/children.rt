@@ -2,7 +2,7 @@ ghost use Rattle.std.specs.Prelude.{◌≡◌, ◌==◌, ◌||◌, ◌∷◌, []
 ghost use Rattle.std.specs.FinMap.{get};
 ghost use Rattle.vfs_tree.specs.Child.{child_below, child_mem, child_null, child_of, child_union, low, low_case, upper_entry};
 ghost use Rattle.vfs_tree.specs.Facts.{Facts};
-ghost use Rattle.vfs_tree.specs.Layers.{is_linked, is_opaque, kind_in};
+ghost use Rattle.vfs_tree.specs.Layers.{is_linked, is_opaque, kind_in, root_of};
 ghost use Rattle.vfs_tree.specs.Place.{Mem, Null, Seen, UnionLow, UnionUp};
 ghost use Rattle.vfs_tree.specs.Shown.{shown, shown_at, shown_child, shown_union};
 ghost use Rattle.vfs_tree.specs.Sound.{IsSound, is_union};
@@ -99,4 +99,14 @@ pub fn trees_are_shown_whole()
     // and a name before others for the tree below what it shows.
     ensures below { (w : World) (d : Seen) (n : List ℕ) (ns : List (List ℕ))
         → shown w d (n ∷ ns) ≡ shown_under w (shown_child (facts_of w) d n) ns }
+{}
+
+/// A null mount shows the tree of its layer, cut off or not: a law of the model, with no code.
+pub fn null_mounts_show_their_layers()
+    // At its root, along any names, stand the kinds, bytes and targets of the layer.
+    ensures root { (w : World) → IsSound w → IsLayered w → (m : ℕ) (layer : Seen) (ns : List (List ℕ))
+        → kind_in (facts_of w) m ≡ Some (kind.Null layer) → shown w (root_of (facts_of w) m) ns ≡ shown w layer ns }
+    // At a place in it stand those of the place that is seen through it.
+    ensures place { (w : World) → IsSound w → IsLayered w → (m : ℕ) (p : Seen) (ns : List (List ℕ))
+        → IsFalling (Null m p) → shown w (Null m p) ns ≡ shown w p ns }
 {}

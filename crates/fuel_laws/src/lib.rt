@@ -13,8 +13,8 @@ mod standing;
 mod walking;
 
 pub use children::{
-    children_are_found_whole, lower_parts_are_found_whole, trees_are_shown_whole,
-    what_is_found_is_falling,
+    children_are_found_whole, lower_parts_are_found_whole, null_mounts_show_their_layers,
+    trees_are_shown_whole, what_is_found_is_falling,
 };
 pub use layered::mounts_stay_layered;
 pub use listing::visible_names_are_whole;
