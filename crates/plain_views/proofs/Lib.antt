@@ -1,1 +1,2 @@
+pub mod HiddenLaws
 pub mod ListingLaws

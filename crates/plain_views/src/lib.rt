@@ -2,6 +2,7 @@
 #![tactic(auto)]
 
 mod carriers;
+mod hidden;
 mod listing;
 mod references;
 mod shown;

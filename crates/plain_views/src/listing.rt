@@ -4,11 +4,13 @@ ghost use Rattle.vfs_tree.specs.Place.{UnionUp};
 ghost use Rattle.vfs_tree.specs.declared.walk.Step.TheVariants.{Go};
 ghost use Rattle.vfs_tree.specs.Views.{facts_of};
 ghost use Rattle.vfs_tree.specs.Visible as listing;
+ghost use Rattle.plain_views.specs.Hidden.{any_listed_under};
 
-use crate::shown::{given_at, has_given_at, merged_at};
+use crate::hidden::has_unhidden_at;
+use crate::shown::{given_at, merged_at};
 use std::alloc::{AllocError, Global};
 use vfs_paths::{low, upper_store};
-use vfs_tree::{Child, NameList, Need, Place, Step, View, World};
+use vfs_tree::{Child, NameList, Need, NodeId, Place, Step, View, World};
 
 /// No names.
 fn nothing(alloc: Global) -> Step<NameList, Need>
@@ -94,68 +96,69 @@ pub fn visible(
     visible_within(alloc, world, u64::from(place.mount()) + 1, place)
 }
 
-/// Whether a union's directory shows a name, through at most that many mounts below it.
+/// Whether a union's directory shows a name that none of those above hides, through at most that many mounts below it,
+/// or a name was found before.
+#[cycle(shows)]
 fn has_visible_union(
     alloc: Global,
     world: &World,
     steps: u64,
     mount: u32,
     dir: u32,
+    mut above: Vec<NodeId>,
+    found: bool,
 ) -> Result<Step<bool, Need>, AllocError>
-    ensures { IfOk result (λ step. step ≡ listing.any_listed (listing.visible_within (suc steps) world.now (UnionUp mount dir))) }
+    ensures { IfOk result
+        (λ step. step ≡ any_listed_under world.now above.items found
+        (listing.visible_within (suc steps) world.now (UnionUp mount dir))) }
 {
     let store = upper_store(world, mount);
-    let lower = match low(alloc, world, mount, dir)? {
-        Child::At { place } => place,
-        Child::Absent => {
-            return Ok(Step::Go {
-                value: has_given_at(world, store, dir),
-            });
+    let shows = has_unhidden_at(world, &above, found, store, dir);
+    match low(alloc, world, mount, dir)? {
+        Child::At { place } => {
+            above.push(NodeId { store, ino: dir })?;
+            Ok(has_visible_within(alloc, world, steps, &place, above, shows)?)
         }
-        Child::Need { need } => return Ok(Step::Wants { what: need }),
-    };
-    match visible_within(alloc, world, steps, &lower)? {
-        Step::Go { value } => Ok(Step::Go {
-            value: has_name(&merged_at(alloc, world, store, dir, &value)?),
-        }),
-        Step::Refuse { errno } => Ok(Step::Refuse { errno }),
-        Step::Wants { what } => Ok(Step::Wants { what }),
+        Child::Absent => Ok(Step::Go { value: shows }),
+        Child::Need { need } => Ok(Step::Wants { what: need }),
     }
 }
 
-/// Whether there is a name.
-fn has_name(names: &NameList) -> bool
-    ensures { result ≡ listing.is_some_name names.now }
-{
-    !names.is_empty()
-}
-
-/// Whether a directory shows a name, through at most that many mounts.
+/// Whether a directory shows a name that none of those above hides, through at most that many mounts, or a name was
+/// found before.
+#[cycle(shows)]
 fn has_visible_within(
     alloc: Global,
     world: &World,
     steps: u64,
     place: &Place,
+    above: Vec<NodeId>,
+    found: bool,
 ) -> Result<Step<bool, Need>, AllocError>
-    ensures { IfOk result (λ step. step ≡ listing.any_listed (listing.visible_within steps world.now place.now)) }
+    ensures { IfOk result
+        (λ step. step ≡ any_listed_under world.now above.items found
+        (listing.visible_within steps world.now place.now)) }
 {
     if steps == 0 {
-        return Ok(Step::Go { value: false });
+        return Ok(Step::Go { value: found });
     }
     match &place.view {
         View::Mem { mount, ino } => Ok(Step::Go {
-            value: has_given_at(world, *mount, *ino),
+            value: has_unhidden_at(world, &above, found, *mount, *ino),
         }),
-        View::Null { lower, .. } => Ok(has_visible_within(alloc, world, steps - 1, lower)?),
-        View::UnionUp { mount, ino } => {
-            Ok(has_visible_union(alloc, world, steps - 1, *mount, *ino)?)
+        View::Null { lower, .. } => {
+            Ok(has_visible_within(alloc, world, steps - 1, lower, above, found)?)
         }
-        View::UnionLow { .. } => Ok(Step::Go { value: false }),
+        View::UnionUp { mount, ino } => {
+            Ok(has_visible_union(alloc, world, steps - 1, *mount, *ino, above, found)?)
+        }
+        View::UnionLow { .. } => Ok(Step::Go { value: found }),
     }
 }
 
-/// Whether a directory shows a name; where its lower part needs a shadow directory first, that need. A list of names is
-/// made only of a union's directory that has a lower part. The only fault is want of memory.
+/// Whether a directory shows a name; where its lower part needs a shadow directory first, that need. Names are neither
+/// listed nor copied: each is looked up in the directories above its own, until one is shown. The only fault is want of
+/// memory.
 pub fn has_visible(
     alloc: Global,
     world: &World,
@@ -163,5 +166,13 @@ pub fn has_visible(
 ) -> Result<Step<bool, Need>, AllocError>
     ensures { IfOk result (λ step. step ≡ listing.has_visible world.now place.now) }
 {
-    has_visible_within(alloc, world, u64::from(place.mount()) + 1, place)
+    let above = Vec::new(alloc);
+    has_visible_within(
+        alloc,
+        world,
+        u64::from(place.mount()) + 1,
+        place,
+        above,
+        false,
+    )
 }

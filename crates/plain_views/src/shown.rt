@@ -1,7 +1,6 @@
 // The names of one directory of a store, and those of a lower part added to them.
 ghost use Rattle.std.specs.Prelude.{◌≡◌, IfOk, OnOk, OnErr};
 ghost use Rattle.vfs_tree.specs.Visible.{names_at, given_names, merged, with_lower_name};
-ghost use Rattle.vfs_tree.specs.Visible.{is_some_name};
 
 use finite_maps::Duplicate;
 use std::alloc::{AllocError, Global};
@@ -18,18 +17,6 @@ fn given_names(alloc: Global, names: &NameMap<NameEntry>) -> Result<NameList, Al
         }
     }
     Ok(NameList::of(given))
-}
-
-/// Whether a name gives an inode.
-fn has_given(names: &NameMap<NameEntry>) -> bool
-    ensures { result ≡ is_some_name (given_names names.now) }
-{
-    for (_name, entry) in names.iter() {
-        if let NameEntry::Ino { .. } = entry {
-            return true;
-        }
-    }
-    false
 }
 
 /// Adds a name of the lower part, unless the upper directory has an entry for it. The only fault is want of memory.
@@ -71,16 +58,6 @@ pub fn given_at(alloc: Global, world: &World, store: u32, dir: u32) -> Result<Na
     match world.names(store, dir) {
         Some(names) => given_names(alloc, names),
         None => given_names(alloc, &NameMap::new(alloc)),
-    }
-}
-
-/// Whether a name of a directory of a store gives an inode.
-pub fn has_given_at(world: &World, store: u32, dir: u32) -> bool
-    ensures { result ≡ is_some_name (given_names (names_at world.now store dir)) }
-{
-    match world.names(store, dir) {
-        Some(names) => has_given(names),
-        None => false,
     }
 }
 
