@@ -207,7 +207,7 @@ right_tells : (p : Pending) (ds : List ℕ) (w : World) (e : Entry) (es : List E
 right_tells p ds w (entry.Call c x r) es right h = call_tells w ds c x h r right
 right_tells p ds w (entry.Inner c x) es right h = inner_tells w c (next_call p c es) x right h
 
-right_whole : (p : Pending) (ds : List ℕ) (w : World) (e : Entry) (es : List Entry) → IsRight p ds w e es → IsWhole w → IsWhole (after w e)
+pub right_whole : (p : Pending) (ds : List ℕ) (w : World) (e : Entry) (es : List Entry) → IsRight p ds w e es → IsWhole w → IsWhole (after w e)
 right_whole p ds w (entry.Call c x r) es right h = whole-call w c r h x
 right_whole p ds w (entry.Inner c x) es right h = inner_whole w c (next_call p c es) x right h
 

@@ -1,5 +1,5 @@
--- Entries that write to no file keep the nodes that are there.
-use Rattle.std.proofs.Common.{◌≡◌, ℕ, ◌<◌, ◌+◌, Bool, true, false, cond, not, ◌&&◌, ◌||◌, ◌==◌, List, [], refl, ap, sym, ◌∙◌, subst, arith}
+-- Entries keep the nodes that are there, but for the file to which they write.
+use Rattle.std.proofs.Common.{◌≡◌, ℕ, ◌<◌, ◌+◌, Bool, true, false, cond, not, ◌&&◌, ◌||◌, ◌==◌, List, [], ◌∷◌, length, refl, ap, sym, ◌∙◌, subst, arith, eq-eqb}
 use Rattle.std.specs.Prelude.{Option, Some, None, IfSome, is_some, option_map, option_and_then, ◌+ℤ◌, pos, nat_lt}
 use Rattle.std.specs.List.{list_any}
 use Rattle.std.specs.Cmp.{nat_cmp_total}
@@ -7,10 +7,12 @@ use Rattle.std.specs.FinMap.{get, insert, remove, empty, len, get-remove}
 use Rattle.std.specs.Ordering.{eq_by_cmp, nat_cmp}
 use Rattle.std.proofs.lemmas.Map.Lookups.{exact_unsigned}
 use Rattle.finite_maps.proofs.EntryLaws.{by_key}
+use Rattle.vfs_tree.specs.Bytes.{resize_bytes, write_bytes}
 use Rattle.vfs_tree.specs.Carriers.{is_in_union}
 use Rattle.vfs_tree.specs.Child.{child_of, child_below, low}
 use Rattle.vfs_tree.specs.Edits.{made, with_made, with_names, with_store, new_dir}
-use Rattle.vfs_tree.specs.Layers.{kind_in, base, is_dir, is_file, target_of, same_place, depth, stores}
+use Rattle.vfs_tree.specs.FileEdits.{with_bytes}
+use Rattle.vfs_tree.specs.Layers.{kind_in, base, same_node, is_dir, is_file, target_of, same_place, depth, stores}
 use Rattle.vfs_tree.specs.Mounts.{has_references, is_covered, cut_with}
 use Rattle.vfs_tree.specs.Nodes.{Names, node_at, is_dir_node, is_white, AreBelow}
 use Rattle.vfs_tree.specs.Place.{Seen, mount_of}
@@ -27,12 +29,14 @@ use Rattle.vfs_tree.specs.declared.node.NameEntry.TheVariants.{Ino, White}
 use Rattle.vfs_tree.specs.declared.node.Node.{Node}
 use Rattle.vfs_tree.specs.declared.node.Node.TheVariants.{Dir, File, Link}
 use Rattle.vfs_tree.specs.declared.node.Store.{Store}
+use Rattle.vfs_tree.specs.declared.open.Open.{Open}
 use Rattle.vfs_tree.specs.declared.walk.Child.{Child}
 use Rattle.vfs_tree.specs.declared.walk.Child.TheVariants as child
 use Rattle.vfs_tree.specs.declared.walk.Found.{Found}
 use Rattle.vfs_tree.specs.declared.walk.Found.TheVariants as found
+use Rattle.vfs_tree.specs.declared.walk.NodeId.{NodeId}
 use Rattle.vfs_tree.specs.declared.world.World.{World}
-use Rattle.call_model.specs.Checks.{is_full, upper_store, lifted, copied, place_at, mount_at, target_at, there, dir_at, free_target, node_of, edit_at, has_white, make_at}
+use Rattle.call_model.specs.Checks.{Outcome, is_full, upper_store, lifted, copied, place_at, mount_at, target_at, there, dir_at, free_target, node_of, edit_at, has_white, make_at}
 use Rattle.call_model.specs.DataRows as rows
 use Rattle.call_model.specs.Effects.{copy_of, copied_child, doomed_place, effect, made_above}
 use Rattle.call_model.specs.Legal.{after}
@@ -50,15 +54,18 @@ use Rattle.call_model.specs.declared.entry.Ref.{Ref}
 use Rattle.call_model.specs.declared.reply.Reply.{Reply}
 use Rattle.call_model.specs.declared.target.Target.{Target}
 use Rattle.call_laws.specs.Lasting.{IsLasting}
+use Rattle.call_laws.proofs.DataParts.{keeps-descriptor}
 use Rattle.call_laws.proofs.DropLaws.{at_node}
 use Rattle.call_laws.proofs.FlagLaws.{get_each}
 use Rattle.call_laws.proofs.NameLaws.{mounts_stay}
 use Rattle.call_laws.proofs.NameParts.{alone-edit}
 use Rattle.call_laws.proofs.NamedLaws.{no_way}
-use Rattle.call_laws.proofs.Parts.{Keeps, found_so, refused, needed, then, unless}
+use Rattle.call_laws.proofs.Parts.{Keeps, found_so, refused, needed, weaker, then, unless}
+use Rattle.call_laws.proofs.SoundParts.{both_of}
 use Rattle.call_laws.proofs.SoundRows.{LeavesSo, AnyNeed}
 use Rattle.model_laws.proofs.Leaving.{past, left-so}
-use Rattle.edit_laws.specs.Contents.{writes, DropsFiles}
+use Rattle.edit_laws.specs.Contents.{place_found, place_opened, written_place, DropsFiles}
+use Rattle.edit_laws.proofs.Answering.{found_place}
 
 -- ---- nodes
 
@@ -174,6 +181,15 @@ module _ (w : World) (s : ℕ) (edit : Store → Store) (keeps : (t : Store) →
 
 at_keeps : (w : World) (p : Seen) (edit : Store → ℕ → Store) → ((t : Store) (i : ℕ) → StoreKeeps t (edit t i)) → KeepsNodes w (edit_at w p edit)
 at_keeps w p edit keeps = let b = base (facts_of w) p in store_keeps w b.store (λ t. edit t b.ino) (λ t at. keeps t b.ino)
+
+-- whether a call may write to a file
+abbrev pub writes : Call → Bool
+writes (call.Write d bytes) = true
+writes (call.Pwrite d o bytes) = true
+writes (call.Truncate p n) = true
+writes (call.Ftruncate d n) = true
+writes (call.Open p f) = f.cut
+writes _ = false
 
 -- a call that takes a mount away
 abbrev pub IsUnmount : Call → Type 0
@@ -384,6 +400,128 @@ module _ (w : World) (lasts : IsLasting w) where
   inner_keeps c (Detach m) =
       ((same_world w).0, λ n k e. ap (option_map (λ (t : Mount). t.kind)) (get_each nat_cmp_total (cut_with w.mounts m) w.mounts n) ∙ cut_kind m k (get w.mounts n) e)
   inner_keeps c (Doom at) = doom_keeps (place_of w at)
+
+-- ---- calls that write
+
+-- a node stays what it is, and so does each mount
+abbrev pub KeepsNode : NodeId → World → World → Type 0
+KeepsNode b w v = ((x : Node) → node_at w b.store b.ino ≡ Some x → StaysNode x (node_at v b.store b.ino)) × ((m : ℕ) (k : MountKind) → kind_in (facts_of w) m ≡ Some k → kind_in (facts_of v) m ≡ Some k)
+
+pub one_of : (b : NodeId) (w v : World) → KeepsNodes w v → KeepsNode b w v
+one_of b w v keeps = (keeps.0 b.store b.ino, keeps.1)
+
+module _ (w : World) (b : NodeId) where
+  -- a place that rests on another node
+  abbrev Away : Seen → Type 0
+  Away p = same_node (base (facts_of w) p) b ≡ false
+
+  abbrev Kept : Outcome → Type 0
+  Kept o = Keeps (LeavesSo (KeepsNode b w)) AnyNeed o
+
+  same_kept : KeepsNode b w w
+  same_kept = one_of b w w (same_world w)
+
+  other_node : (s i : ℕ) → same_node (record { store = s; ino = i }) b ≡ false → (f : Node → Node) (o : Option Store) → get w.stores s ≡ o
+      → node_at (with_store (λ t. with_node_at f t i) w s o) b.store b.ino ≡ node_at w b.store b.ino
+  other_node s i away f (Some t) at =
+      by_key nat_cmp_total exact_unsigned w.stores s (with_node_at f t i) b.store (λ o. option_and_then (λ (t : Store). get t.nodes b.ino) o ≡ node_at w b.store b.ino)
+      (λ same. at_node f t i b.ino (λ o. o ≡ node_at w b.store b.ino)
+      (λ node one _. no_way (sym away ∙ both_of (s == b.store) (i == b.ino) (eq-eqb s b.store (sym same)) (eq-eqb i b.ino (sym one))))
+      (sym (ap (option_and_then (λ (t : Store). get t.nodes b.ino)) (ap (get w.stores) same ∙ at)))) refl
+  other_node s i away f None at = refl
+
+  edit_kept : (p : Seen) → Away p → (f : Node → Node) → KeepsNode b w (edit_at w p (λ t i. with_node_at f t i))
+  edit_kept p away f =
+      let a : NodeId = base (facts_of w) p in (
+        λ x e. subst (StaysNode x) (sym (other_node a.store a.ino away f (get w.stores a.store) refl ∙ e)) (stays_itself x),
+        λ m k e. mounts_stay (λ t. with_node_at f t a.ino) w a.store m (get w.stores a.store) ∙ e,
+      )
+
+  bytes_kept : (p : Seen) → Away p → (f : List ℕ → List ℕ) → KeepsNode b w (edit_at w p (λ t i. with_node_at (with_bytes f) t i))
+  bytes_kept p away f = edit_kept p away (with_bytes f)
+
+  length_kept : (p : Seen) → Away p → (n : ℕ) → KeepsNode b w (rows.resize_at w p n)
+  length_kept p away n = bytes_kept p away (λ old. resize_bytes old n)
+
+  -- what a descriptor stands for
+  of_opened : (c d : ℕ) (o : Open) → IfSome (place_opened w c d) Away → get w.opens (c, d) ≡ Some o → Away o.place
+  of_opened c d o away is = subst (λ x. IfSome (option_map (λ (o : Open). o.place) x) Away) is away
+
+  at_descriptor : (c d : ℕ) → Keeps (λ o. get w.opens (c, d) ≡ Some o) AnyNeed (rows.descriptor w c d)
+  at_descriptor c d = weaker (rows.descriptor w c d) (λ _ h. h) (λ _ _. tt) (keeps-descriptor w c d)
+
+  write_at_kept : (o : Open) (at : ℕ) (bytes : List ℕ) → Away o.place → Keeps (λ (x : World × ℕ). KeepsNode b w x.0) AnyNeed (rows.write_at w o at bytes)
+  write_at_kept o at bytes away = unless (nat_lt rows.most_bytes (at + length bytes)) _ (λ _. found_so (bytes_kept o.place away (λ old. write_bytes old at bytes)))
+
+  write_some_kept : (c d : ℕ) (o : Open) (bytes : List ℕ) → Away o.place → Kept (rows.write_some w c d o bytes)
+  write_some_kept c d o [] away = found_so same_kept
+  write_some_kept c d o (x ∷ xs) away =
+      then (rows.write_at w o (rows.write_to w o o.offset) (x ∷ xs)) (write_at_kept o (rows.write_to w o o.offset) (x ∷ xs) away) (λ new k. found_so k)
+
+  pwrite_some_kept : (o : Open) (at : ℕ) (bytes : List ℕ) → Away o.place → Kept (rows.pwrite_some w o at bytes)
+  pwrite_some_kept o at [] away = found_so same_kept
+  pwrite_some_kept o at (x ∷ xs) away =
+      then (rows.write_at w o (rows.write_to w o at) (x ∷ xs)) (write_at_kept o (rows.write_to w o at) (x ∷ xs) away) (λ new k. found_so k)
+
+  write_kept : (c d : ℕ) (bytes : List ℕ) → IfSome (place_opened w c d) Away → Kept (rows.write w c d bytes)
+  write_kept c d bytes away =
+      then (rows.descriptor w c d) (at_descriptor c d) (λ o is. past (rows.check_write o bytes) (λ _. write_some_kept c d o bytes (of_opened c d o away is)))
+
+  pwrite_kept : (c d at : ℕ) (bytes : List ℕ) → IfSome (place_opened w c d) Away → Kept (rows.pwrite w c d at bytes)
+  pwrite_kept c d at bytes away =
+      then (rows.descriptor w c d) (at_descriptor c d) (λ o is. past (rows.check_write o bytes) (λ _. pwrite_some_kept o at bytes (of_opened c d o away is)))
+
+  ftruncate_kept : (c d n : ℕ) → IfSome (place_opened w c d) Away → Kept (rows.ftruncate w c d n)
+  ftruncate_kept c d n away =
+      then {Q = Away} (rows.open_length w c d n)
+      (then (rows.descriptor w c d) (at_descriptor c d) (λ o is.
+      unless o.dead _ (λ _. unless (not o.mode.write) _ (λ _. unless (nat_lt rows.most_bytes n) _ (λ _. found_so (of_opened c d o away is))))))
+      (λ p off. found_so (length_kept p off n))
+
+  truncate_kept : (a : Found) (n : ℕ) → IfSome (place_found a) Away → Kept (rows.truncate w a n)
+  truncate_kept a n away =
+      then (place_at w a) (found_place w a) (λ p is. past (rows.check_length w p n) (λ _. found_so (length_kept p (subst (λ x. IfSome (place_found x) Away) is away) n)))
+
+  -- an open cuts what is there
+  cut_kept : (c fd : ℕ) (f : Flags) (p : Seen) (cut : Bool) → Away p → KeepsNode b w (rows.open_place (rows.cut_to cut w p) c fd f p)
+  cut_kept c fd f p true away = length_kept p away 0
+  cut_kept c fd f p false away = same_kept
+
+  module _ (lasts : IsLasting w) where
+    found_kept : (c fd : ℕ) (f : Flags) (a : Found) → IfSome (place_found a) Away → Kept (rows.open_found w c fd f a)
+    found_kept c fd f (found.At p) away =
+        unless (is_dir (facts_of w) p && rows.writes f.access) _ (λ _.
+        unless (not (is_dir (facts_of w) p) && f.dir) _ (λ _.
+        past (rows.copied_for (rows.writes f.access) w p) (λ _. found_so (cut_kept c fd f p f.cut away))))
+    found_kept c fd f (found.In d n None) away = then (make_at w d n (File [])) (make_keeps w lasts d n (File [])) (λ new v. found_so (one_of b w new v))
+    found_kept c fd f (found.In d n (Some p)) away = refused
+    found_kept c fd f (found.Dot d) away = refused
+    found_kept c fd f (found.Mount m) away = refused
+    found_kept c fd f (found.Refused e) away = refused
+    found_kept c fd f (found.Need x) away = unless (is_full w (upper_store w x.mount)) _ (λ _. needed tt)
+
+    open_kept : (c : ℕ) (f : Flags) (a : Found) → IfSome (place_found a) Away → Kept (rows.open_file w c f a)
+    open_kept c f a away =
+        unless (not (rows.are_flags f)) _ (λ _.
+        past (rows.free_descriptor w c) (λ fd.
+        unless (not (nat_lt (len w.opens) w.limits.files)) _ (λ _. found_kept c fd f a away)))
+
+    -- ---- what such a call leaves
+
+    left_by : (c : ℕ) (x : Call) (r : Reply) → Kept (decided w c x (first_found w c x) (second_found w c x)) → KeepsNode b w (after w (entry.Call c x r))
+    left_by c x r kept = left-so (KeepsNode b w) w c x r same_kept kept
+
+    open_case : (c : ℕ) (p : List ℕ) (f : Flags) (r : Reply) (cut : Bool) → f.cut ≡ cut → IfSome (cond cut (place_found (first_found w c (call.Open p f))) None) Away → KeepsNode b w (after w (entry.Call c (call.Open p f) r))
+    open_case c p f r true is away = let x = call.Open p f in left_by c x r (open_kept c f (first_found w c x) away)
+    open_case c p f r false is away = let x = call.Open p f in one_of b w (after w (entry.Call c x r)) (call_keeps w lasts c x r is (λ y. y))
+
+    pub call_kept : (c : ℕ) (x : Call) (r : Reply) → (IsUnmount x → ⊥) → IfSome (written_place w c x) Away → KeepsNode b w (after w (entry.Call c x r))
+    call_kept c (call.Write d bytes) r stays away = left_by c (call.Write d bytes) r (write_kept c d bytes away)
+    call_kept c (call.Pwrite d at bytes) r stays away = left_by c (call.Pwrite d at bytes) r (pwrite_kept c d at bytes away)
+    call_kept c (call.Truncate p n) r stays away = let x = call.Truncate p n in left_by c x r (truncate_kept (first_found w c x) n away)
+    call_kept c (call.Ftruncate d n) r stays away = left_by c (call.Ftruncate d n) r (ftruncate_kept c d n away)
+    call_kept c (call.Open p f) r stays away = open_case c p f r f.cut refl away
+    call_kept c x r stays away = one_of b w (after w (entry.Call c x r)) (call_keeps w lasts c x r refl stays)
 
 -- ---- unmounts
 

@@ -1,5 +1,5 @@
 -- What is open keeps its file.
-use Rattle.std.proofs.Common.{◌≡◌, ℕ, Bool, true, false, cond, not, ◌&&◌, ◌||◌, ◌==◌, List, [], refl, ap, sym, ◌∙◌, subst, eq-eqb, ◌+◌, length}
+use Rattle.std.proofs.Common.{◌≡◌, ℕ, Bool, true, false, cond, not, ◌&&◌, ◌||◌, ◌==◌, List, [], ◌∷◌, ◌++◌, refl, ap, sym, ◌∙◌, subst, eq-eqb, ◌+◌, length}
 use Rattle.std.specs.Prelude.{Option, Some, None, IsSome, IfSome, option_map, option_and_then, nat_lt}
 use Rattle.std.specs.FinMap.{get}
 use Rattle.finite_maps.specs.Keys.{pair_cmp}
@@ -8,9 +8,11 @@ use Rattle.vfs_tree.specs.Layers.{kind_in, store_by, base, same_node, is_dir_kin
 use Rattle.vfs_tree.specs.Nodes.{node_at, is_dir_node}
 use Rattle.vfs_tree.specs.Place.{Seen, Mem, Null, UnionUp, UnionLow}
 use Rattle.vfs_tree.specs.Sound.{is_mem, is_null, is_union, names_mounts, IsSoundPlace, IsSoundDir, EachLayer, EachPlace, IsSound}
+use Rattle.vfs_tree.specs.Start.{start_world}
 use Rattle.vfs_tree.specs.Steps.{◌>>=◌, ◌>>◌, refuse_if}
 use Rattle.vfs_tree.specs.Views.{kind_of_node, is_linked_in, facts_of}
 use Rattle.vfs_tree.specs.declared.errno.Errno.TheVariants as errno
+use Rattle.vfs_tree.specs.declared.limits.Limits.{Limits}
 use Rattle.vfs_tree.specs.declared.mount.Mount.{Mount}
 use Rattle.vfs_tree.specs.declared.mount.MountKind.{MountKind}
 use Rattle.vfs_tree.specs.declared.mount.MountKind.TheVariants as kind
@@ -25,7 +27,7 @@ use Rattle.call_model.specs.Apply.{Applied, Finished, Needs, apply, settle}
 use Rattle.call_model.specs.Checks.{Outcome, node_of}
 use Rattle.call_model.specs.DataRows.{contents, bytes_of, opened, piece, most_moved, with_offset}
 use Rattle.call_model.specs.Kept.{is_open_on, is_cwd_on, is_mounted_on, kept, kept_store}
-use Rattle.call_model.specs.Legal.{after, world_after}
+use Rattle.call_model.specs.Legal.{Pending, IsLegal, IsLegalFrom, after, doomers_after, doomers_in, replay, world_after}
 use Rattle.call_model.specs.declared.call.Call.{Call}
 use Rattle.call_model.specs.declared.call.Call.TheVariants as call
 use Rattle.call_model.specs.declared.entry.Entry.{Entry}
@@ -33,12 +35,18 @@ use Rattle.call_model.specs.declared.entry.Entry.TheVariants as entry
 use Rattle.call_model.specs.declared.reply.Reply.{Reply}
 use Rattle.call_model.specs.declared.reply.Reply.TheVariants as reply
 use Rattle.call_laws.specs.Lasting.{IsUncut, IsLasting}
+use Rattle.call_laws.specs.Prefixes.{pending_before}
 use Rattle.call_laws.proofs.KeptLaws.{store_kept, node_kept}
 use Rattle.call_laws.proofs.NamedLaws.{no_way, value_any}
+use Rattle.call_laws.proofs.PlaceLaws.{lasting-start}
+use Rattle.call_laws.proofs.PrefixLaws.{legal-before, legal-after, replay-joined}
+use Rattle.call_laws.proofs.SoundLaws.{sound-start}
 use Rattle.call_laws.proofs.SoundParts.{second_of, both_of, mem_there, mount_there}
-use Rattle.call_laws.proofs.WorldLaws.{sound_call}
-use Rattle.edit_laws.specs.Contents.{is_writing, writes, DropsFiles}
-use Rattle.edit_laws.proofs.KeptNodes.{StaysNode, KeepsNodes, HasFewer, call_keeps, inner_keeps, after_umount, after_force, after_drop}
+use Rattle.call_laws.proofs.Whole.{IsWhole}
+use Rattle.call_laws.proofs.WorldLaws.{sound_call, whole-history}
+use Rattle.edit_laws.specs.Contents.{WritesElsewhere, AllWriteElsewhere, IsOpenAt, StaysOpenAt, DropsFiles}
+use Rattle.edit_laws.proofs.HistoryTells.{right_whole}
+use Rattle.edit_laws.proofs.KeptNodes.{StaysNode, KeepsNodes, KeepsNode, HasFewer, one_of, call_keeps, call_kept, inner_keeps, after_umount, after_force, after_drop}
 
 -- ---- the node of a place
 
@@ -92,7 +100,7 @@ module _ (w v : World) (p : Seen) where
   abbrev b : NodeId
   b = base (facts_of w) p
 
-  module _ (keeps : KeepsNodes w v) (place : IsSoundPlace (facts_of w) p) where
+  module _ (keeps : KeepsNode b w v) (place : IsSoundPlace (facts_of w) p) where
     same_base : base (facts_of v) p ≡ b
     same_base = base_same (facts_of w) (facts_of v) keeps.1 p place.mounts
 
@@ -100,7 +108,7 @@ module _ (w v : World) (p : Seen) where
     moved = ap (λ (x : NodeId). node_at v x.store x.ino) same_base
 
     stays : (x : Node) → node_of w p ≡ Some x → StaysNode x (node_of v p)
-    stays x e = subst (StaysNode x) (sym moved) (keeps.0 b.store b.ino x e)
+    stays x e = subst (StaysNode x) (sym moved) (keeps.0 x e)
 
     kept_file : SameFile w v p
     kept_file = record {
@@ -125,61 +133,73 @@ module _ (w v : World) (p : Seen) where
 open_place : (w : World) (k : ℕ × ℕ) (o : Open) → IsSound w → get w.opens k ≡ Some o → o.dead ≡ false → IsSoundPlace (facts_of w) o.place
 open_place w k o sound at alive = subst (λ x. IfSome x (λ o. o.dead ≡ false → IsSoundPlace (facts_of w) o.place)) at (sound.opens k) alive
 
-module _ (w : World) (k : ℕ × ℕ) (o new : Open) (sound : IsSound w) (lasts : IsLasting w) (at : get w.opens k ≡ Some o) (alive : o.dead ≡ false) (live : new.dead ≡ false) (same : new.place ≡ o.place) where
-  place : IsSoundPlace (facts_of w) o.place
-  place = open_place w k o sound at alive
+sound_at : (w : World) (k : ℕ × ℕ) (p : Seen) → IsSound w → IsOpenAt w k p → IsSoundPlace (facts_of w) p
+sound_at w k p sound x = subst (IsSoundPlace (facts_of w)) x.place (open_place w k x.file sound x.at x.live)
 
-  by_keeps : (e : Entry) → KeepsNodes w (after w e) → SameFile w (after w e) o.place
-  by_keeps e keeps = kept_file w (after w e) o.place keeps place
+module _ (w : World) (k : ℕ × ℕ) (p : Seen) (sound : IsSound w) (lasts : IsLasting w) (before : IsOpenAt w k p) where
+  by_kept : (e : Entry) → KeepsNode (base (facts_of w) p) w (after w e) → IsOpenAt (after w e) k p → SameFile w (after w e) p
+  by_kept e keeps there = kept_file w (after w e) p keeps (sound_at w k p sound before)
 
-  by_fewer : (c : ℕ) (x : Call) (r : Reply) → HasFewer w (after w (entry.Call c x r)) → get (after w (entry.Call c x r)).opens k ≡ Some new → SameFile w (after w (entry.Call c x r)) o.place
-  by_fewer c x r fewer there =
-      let v = after w (entry.Call c x r) in
-      fewer_file w v o.place fewer (subst (IsSoundPlace (facts_of v)) same (open_place v k new (sound_call w c x r sound lasts) there live))
+  by_fewer : (c : ℕ) (x : Call) (r : Reply) → HasFewer w (after w (entry.Call c x r)) → IsOpenAt (after w (entry.Call c x r)) k p → SameFile w (after w (entry.Call c x r)) p
+  by_fewer c x r fewer there = let v = after w (entry.Call c x r) in fewer_file w v p fewer (sound_at v k p (sound_call w c x r sound lasts) there)
 
-  call_same : (c : ℕ) (x : Call) (r : Reply) → writes x ≡ false → get (after w (entry.Call c x r)).opens k ≡ Some new → SameFile w (after w (entry.Call c x r)) o.place
-  call_same c (call.Umount p) r off there = by_fewer c (call.Umount p) r (after_umount w c p r) there
-  call_same c (call.UmountForce p) r off there = by_fewer c (call.UmountForce p) r (after_force w c p r) there
-  call_same c (call.Mkdir p) r off there = by_keeps (entry.Call c (call.Mkdir p) r) (call_keeps w lasts c (call.Mkdir p) r off (λ x. x))
-  call_same c (call.Rmdir p) r off there = by_keeps (entry.Call c (call.Rmdir p) r) (call_keeps w lasts c (call.Rmdir p) r off (λ x. x))
-  call_same c (call.Open p f) r off there = by_keeps (entry.Call c (call.Open p f) r) (call_keeps w lasts c (call.Open p f) r off (λ x. x))
-  call_same c (call.Close d) r off there = by_keeps (entry.Call c (call.Close d) r) (call_keeps w lasts c (call.Close d) r off (λ x. x))
-  call_same c (call.Read d n) r off there = by_keeps (entry.Call c (call.Read d n) r) (call_keeps w lasts c (call.Read d n) r off (λ x. x))
-  call_same c (call.Pread d n y) r off there = by_keeps (entry.Call c (call.Pread d n y) r) (call_keeps w lasts c (call.Pread d n y) r off (λ x. x))
-  call_same c (call.Write d bytes) r off there = no_way (sym off)
-  call_same c (call.Pwrite d y bytes) r off there = no_way (sym off)
-  call_same c (call.Lseek d y i) r off there = by_keeps (entry.Call c (call.Lseek d y i) r) (call_keeps w lasts c (call.Lseek d y i) r off (λ x. x))
-  call_same c (call.Truncate p n) r off there = no_way (sym off)
-  call_same c (call.Ftruncate d n) r off there = no_way (sym off)
-  call_same c (call.Stat p) r off there = by_keeps (entry.Call c (call.Stat p) r) (call_keeps w lasts c (call.Stat p) r off (λ x. x))
-  call_same c (call.Lstat p) r off there = by_keeps (entry.Call c (call.Lstat p) r) (call_keeps w lasts c (call.Lstat p) r off (λ x. x))
-  call_same c (call.Fstat d) r off there = by_keeps (entry.Call c (call.Fstat d) r) (call_keeps w lasts c (call.Fstat d) r off (λ x. x))
-  call_same c (call.Readdir d) r off there = by_keeps (entry.Call c (call.Readdir d) r) (call_keeps w lasts c (call.Readdir d) r off (λ x. x))
-  call_same c (call.Unlink p) r off there = by_keeps (entry.Call c (call.Unlink p) r) (call_keeps w lasts c (call.Unlink p) r off (λ x. x))
-  call_same c (call.Rename p q) r off there = by_keeps (entry.Call c (call.Rename p q) r) (call_keeps w lasts c (call.Rename p q) r off (λ x. x))
-  call_same c (call.Link p q) r off there = by_keeps (entry.Call c (call.Link p q) r) (call_keeps w lasts c (call.Link p q) r off (λ x. x))
-  call_same c (call.Symlink t p) r off there = by_keeps (entry.Call c (call.Symlink t p) r) (call_keeps w lasts c (call.Symlink t p) r off (λ x. x))
-  call_same c (call.Readlink p) r off there = by_keeps (entry.Call c (call.Readlink p) r) (call_keeps w lasts c (call.Readlink p) r off (λ x. x))
-  call_same c (call.Undelete p) r off there = by_keeps (entry.Call c (call.Undelete p) r) (call_keeps w lasts c (call.Undelete p) r off (λ x. x))
-  call_same c (call.Chdir p) r off there = by_keeps (entry.Call c (call.Chdir p) r) (call_keeps w lasts c (call.Chdir p) r off (λ x. x))
-  call_same c (call.Fchdir d) r off there = by_keeps (entry.Call c (call.Fchdir d) r) (call_keeps w lasts c (call.Fchdir d) r off (λ x. x))
-  call_same c (call.Statfs p) r off there = by_keeps (entry.Call c (call.Statfs p) r) (call_keeps w lasts c (call.Statfs p) r off (λ x. x))
-  call_same c (call.MountMem p) r off there = by_keeps (entry.Call c (call.MountMem p) r) (call_keeps w lasts c (call.MountMem p) r off (λ x. x))
-  call_same c (call.MountNull t p) r off there = by_keeps (entry.Call c (call.MountNull t p) r) (call_keeps w lasts c (call.MountNull t p) r off (λ x. x))
-  call_same c (call.MountUnion u p) r off there = by_keeps (entry.Call c (call.MountUnion u p) r) (call_keeps w lasts c (call.MountUnion u p) r off (λ x. x))
-  call_same c (call.Revoke p) r off there = by_keeps (entry.Call c (call.Revoke p) r) (call_keeps w lasts c (call.Revoke p) r off (λ x. x))
+  call_same : (c : ℕ) (x : Call) (r : Reply) → WritesElsewhere w (entry.Call c x r) p → IsOpenAt (after w (entry.Call c x r)) k p → SameFile w (after w (entry.Call c x r)) p
+  call_same c (call.Umount a) r away = by_fewer c (call.Umount a) r (after_umount w c a r)
+  call_same c (call.UmountForce a) r away = by_fewer c (call.UmountForce a) r (after_force w c a r)
+  call_same c x r away = by_kept (entry.Call c x r) (call_kept w (base (facts_of w) p) lasts c x r (λ y. y) away)
 
-  entry_same : (e : Entry) → is_writing e ≡ false → get (after w e).opens k ≡ Some new → SameFile w (after w e) o.place
-  entry_same (entry.Call c x r) off there = call_same c x r off there
-  entry_same (entry.Inner c x) off there = by_keeps (entry.Inner c x) (inner_keeps w lasts c x)
+  entry_same : (e : Entry) → WritesElsewhere w e p → IsOpenAt (after w e) k p → SameFile w (after w e) p
+  entry_same (entry.Call c x r) away = call_same c x r away
+  entry_same (entry.Inner c x) away = by_kept (entry.Inner c x) (one_of (base (facts_of w) p) w (after w (entry.Inner c x)) (inner_keeps w lasts c x))
 
-pub open_node : (w : World) (e : Entry) (k : ℕ × ℕ) (o new : Open) → IsSound w → IsLasting w → is_writing e ≡ false → get w.opens k ≡ Some o → o.dead ≡ false → get (after w e).opens k ≡ Some new → new.dead ≡ false → new.place ≡ o.place
-    → is_dir (facts_of w) o.place ≡ false → node_of (after w e) o.place ≡ node_of w o.place
-open_node w e k o new sound lasts off at alive there live same file = (entry_same w k o new sound lasts at alive live same e off there).node file
+pub open_node : (w : World) (e : Entry) (k : ℕ × ℕ) (p : Seen) → IsSound w → IsLasting w → IsOpenAt w k p → IsOpenAt (after w e) k p → WritesElsewhere w e p → is_dir (facts_of w) p ≡ false → node_of (after w e) p ≡ node_of w p
+open_node w e k p sound lasts before there away file = (entry_same w k p sound lasts before e away there).node file
 
-pub open_bytes : (w : World) (e : Entry) (k : ℕ × ℕ) (o new : Open) → IsSound w → IsLasting w → is_writing e ≡ false → get w.opens k ≡ Some o → o.dead ≡ false → get (after w e).opens k ≡ Some new → new.dead ≡ false → new.place ≡ o.place
-    → bytes_of (after w e) o.place ≡ bytes_of w o.place
-open_bytes w e k o new sound lasts off at alive there live same = (entry_same w k o new sound lasts at alive live same e off there).bytes
+pub open_bytes : (w : World) (e : Entry) (k : ℕ × ℕ) (p : Seen) → IsSound w → IsLasting w → IsOpenAt w k p → IsOpenAt (after w e) k p → WritesElsewhere w e p → bytes_of (after w e) p ≡ bytes_of w p
+open_bytes w e k p sound lasts before there away = (entry_same w k p sound lasts before e away there).bytes
+
+-- ---- histories
+
+open_now : (w : World) (es : List Entry) (k : ℕ × ℕ) (p : Seen) → StaysOpenAt w es k p → IsOpenAt w k p
+open_now w [] k p stays = stays
+open_now w (e ∷ es) k p stays = stays.0
+
+same_through : (w v u : World) (p : Seen) → SameFile w v p → SameFile v u p → SameFile w u p
+same_through w v u p a b = record {
+  node = λ file. let same = a.node file in b.node (ap (λ o. is_dir_kind (option_map kind_of_node o)) same ∙ file) ∙ same;
+  bytes = b.bytes ∙ a.bytes;
+}
+
+same_along : (pending : Pending) (ds : List ℕ) (w : World) (es : List Entry) (k : ℕ × ℕ) (p : Seen) → IsLegalFrom pending ds w es → IsWhole w → StaysOpenAt w es k p → AllWriteElsewhere w es p → SameFile w (replay w es) p
+same_along pending ds w [] k p legal h stays away = record { node = λ _. refl; bytes = refl }
+same_along pending ds w (e ∷ es) k p legal h stays away =
+    let v = after w e in
+    same_through w v (replay v es) p (entry_same w k p h.sound h.lasts stays.0 e away.0 (open_now v es k p stays.1))
+    (same_along pending (doomers_after ds e) v es k p legal.1 (right_whole pending ds w e es legal.0 h) stays.1 away.1)
+
+pub history_node : (pending : Pending) (w : World) (es : List Entry) (k : ℕ × ℕ) (p : Seen) → IsLegal pending w es → IsSound w → IsLasting w → StaysOpenAt w es k p → AllWriteElsewhere w es p → is_dir (facts_of w) p ≡ false
+    → node_of (replay w es) p ≡ node_of w p
+history_node pending w es k p legal sound lasts stays away = (same_along pending [] w es k p legal (record { sound = sound; lasts = lasts }) stays away).node
+
+pub history_bytes : (pending : Pending) (w : World) (es : List Entry) (k : ℕ × ℕ) (p : Seen) → IsLegal pending w es → IsSound w → IsLasting w → StaysOpenAt w es k p → AllWriteElsewhere w es p
+    → bytes_of (replay w es) p ≡ bytes_of w p
+history_bytes pending w es k p legal sound lasts stays away = (same_along pending [] w es k p legal (record { sound = sound; lasts = lasts }) stays away).bytes
+
+module _ (limits : Limits) (pending : Pending) (es fs : List Entry) (k : ℕ × ℕ) (p : Seen) where
+  abbrev first : World
+  first = start_world limits
+
+  module _ (legal : IsLegal pending first (es ++ fs)) (stays : StaysOpenAt (replay first es) fs k p) (away : AllWriteElsewhere (replay first es) fs p) where
+    same_after : SameFile (replay first es) (replay (replay first es) fs) p
+    same_after =
+        let h : IsWhole first = record { sound = sound-start limits; lasts = lasting-start limits } in
+        same_along pending (doomers_in [] es) (replay first es) fs k p (legal-after pending first es fs legal) (whole-history (pending_before pending fs) [] first es (legal-before pending first es fs legal) h) stays away
+
+    pub start_node : is_dir (facts_of (replay first es)) p ≡ false → node_of (replay first (es ++ fs)) p ≡ node_of (replay first es) p
+    start_node file = ap (λ v. node_of v p) (replay-joined first es fs) ∙ same_after.node file
+
+    pub start_bytes : bytes_of (replay first (es ++ fs)) p ≡ bytes_of (replay first es) p
+    start_bytes = ap (λ v. bytes_of v p) (replay-joined first es fs) ∙ same_after.bytes
 
 -- ---- names that are dropped
 
@@ -192,7 +212,7 @@ pub unlinked_open : (w : World) (c : ℕ) (x : Call) (r : Reply) → DropsFiles 
 unlinked_open w c x r drops = after_drop w c x r drops
 
 pub unlinked_node : (w : World) (c : ℕ) (x : Call) (r : Reply) (k : ℕ × ℕ) (o : Open) → IsSound w → IsLasting w → DropsFiles x → get w.opens k ≡ Some o → o.dead ≡ false → is_dir (facts_of w) o.place ≡ false → node_of (after w (entry.Call c x r)) o.place ≡ node_of w o.place
-unlinked_node w c x r k o sound lasts drops at alive file = (kept_file w (after w (entry.Call c x r)) o.place (drop_keeps w c x r lasts drops) (open_place w k o sound at alive)).node file
+unlinked_node w c x r k o sound lasts drops at alive file = (kept_file w (after w (entry.Call c x r)) o.place (one_of (base (facts_of w) o.place) w (after w (entry.Call c x r)) (drop_keeps w c x r lasts drops)) (open_place w k o sound at alive)).node file
 
 -- what a read of an open file answers
 abbrev checked : Open → Bool → ℕ → Outcome → Outcome
@@ -228,7 +248,7 @@ pub unlinked_read : (w : World) (b : ℕ) (x : Call) (s : Reply) (c d n at : ℕ
     → apply w c (call.Pread d n at) ≡ Finished w r → apply (after w (entry.Call b x s)) c (call.Pread d n at) ≡ Finished (after w (entry.Call b x s)) r
 unlinked_read w b x s c d n at o r sound lasts drops there alive is =
     let v = after w (entry.Call b x s) in
-    let keeps = drop_keeps w b x s lasts drops in
+    let keeps = one_of (base (facts_of w) o.place) w v (drop_keeps w b x s lasts drops) in
     let place = open_place w (c, d) o sound there alive in
     read_same w v c d n at o r (after_drop w b x s drops) there (kept_dir w v o.place keeps place) (kept_file w v o.place keeps place).bytes is
 
@@ -270,7 +290,7 @@ pub unlinked_moves : (w u : World) (b : ℕ) (x : Call) (s : Reply) (c d n : ℕ
     → apply w c (call.Read d n) ≡ Finished u r → apply (after w (entry.Call b x s)) c (call.Read d n) ≡ Finished (world_after (after w (entry.Call b x s)) (apply (after w (entry.Call b x s)) c (call.Read d n))) r
 unlinked_moves w u b x s c d n o r sound lasts drops there alive is =
     let v = after w (entry.Call b x s) in
-    let keeps = drop_keeps w b x s lasts drops in
+    let keeps = one_of (base (facts_of w) o.place) w v (drop_keeps w b x s lasts drops) in
     let place = open_place w (c, d) o sound there alive in
     moved_same w v u c d n o r (after_drop w b x s drops) there (kept_dir w v o.place keeps place) (kept_file w v o.place keeps place).bytes is
 

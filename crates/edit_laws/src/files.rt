@@ -1,35 +1,54 @@
-ghost use Rattle.std.specs.Prelude.{◌≡◌, ℕ, IsSome, Some, false};
+ghost use Rattle.std.specs.Prelude.{◌≡◌, ◌++◌, ℕ, List, IsSome, Some, false};
 ghost use Rattle.std.specs.FinMap.{get};
 ghost use Rattle.vfs_tree.specs.Layers.{base, is_dir};
+ghost use Rattle.vfs_tree.specs.Place.{Seen};
 ghost use Rattle.vfs_tree.specs.Sound.{IsSound};
+ghost use Rattle.vfs_tree.specs.Start.{start_world};
 ghost use Rattle.vfs_tree.specs.Views.{facts_of};
+ghost use Rattle.vfs_tree.specs.declared.limits.Limits.{Limits};
 ghost use Rattle.vfs_tree.specs.declared.open.Open.{Open};
 ghost use Rattle.vfs_tree.specs.declared.world.World.{World};
 ghost use Rattle.call_model.specs.Apply.{Finished, apply};
 ghost use Rattle.call_model.specs.Checks.{node_of};
 ghost use Rattle.call_model.specs.DataRows.{bytes_of};
 ghost use Rattle.call_model.specs.Kept.{kept};
-ghost use Rattle.call_model.specs.Legal.{after, world_after};
+ghost use Rattle.call_model.specs.Legal.{IsLegal, Pending, after, replay, world_after};
 ghost use Rattle.call_model.specs.declared.call.Call.{Call};
 ghost use Rattle.call_model.specs.declared.call.Call.TheVariants as call;
 ghost use Rattle.call_model.specs.declared.entry.Entry.{Entry};
 ghost use Rattle.call_model.specs.declared.entry.Entry.TheVariants as entry;
 ghost use Rattle.call_model.specs.declared.reply.Reply.{Reply};
 ghost use Rattle.call_laws.specs.Lasting.{IsLasting, IsUncut};
-ghost use Rattle.edit_laws.specs.Contents.{DropsFiles, is_writing};
+ghost use Rattle.edit_laws.specs.Contents.{AllWriteElsewhere, DropsFiles, IsOpenAt, StaysOpenAt, WritesElsewhere};
 
-/// What is open keeps its file, and an entry that writes to no file its bytes: a law of the model, with no code.
+/// What is open keeps its file, and its bytes while only other files are written: a law of the model, with no code.
 pub fn an_open_file_keeps_its_bytes()
-    // An open file that stays live at its place, which no copy turned, stands on the same node, where that is no directory.
-    ensures node { (w : World) (e : Entry) (k : ℕ × ℕ) (o new : Open)
-        → IsSound w → IsLasting w → is_writing e ≡ false → get w.opens k ≡ Some o → o.dead ≡ false
-        → get (after w e).opens k ≡ Some new → new.dead ≡ false → new.place ≡ o.place
-        → is_dir (facts_of w) o.place ≡ false → node_of (after w e) o.place ≡ node_of w o.place }
-    // So its bytes are what they were.
-    ensures bytes { (w : World) (e : Entry) (k : ℕ × ℕ) (o new : Open)
-        → IsSound w → IsLasting w → is_writing e ≡ false → get w.opens k ≡ Some o → o.dead ≡ false
-        → get (after w e).opens k ≡ Some new → new.dead ≡ false → new.place ≡ o.place
-        → bytes_of (after w e) o.place ≡ bytes_of w o.place }
+    // What stays open at its place, where that is no directory, has the same node after an entry that writes to no file
+    // or to one of another node.
+    ensures node { (w : World) (e : Entry) (k : ℕ × ℕ) (p : Seen)
+        → IsSound w → IsLasting w → IsOpenAt w k p → IsOpenAt (after w e) k p → WritesElsewhere w e p
+        → is_dir (facts_of w) p ≡ false → node_of (after w e) p ≡ node_of w p }
+    // The bytes there are what they were.
+    ensures bytes { (w : World) (e : Entry) (k : ℕ × ℕ) (p : Seen)
+        → IsSound w → IsLasting w → IsOpenAt w k p → IsOpenAt (after w e) k p → WritesElsewhere w e p
+        → bytes_of (after w e) p ≡ bytes_of w p }
+    // So it has along a legal history in which it stays open at its place and each entry writes elsewhere,
+    ensures world_node { (pending : Pending) (w : World) (es : List Entry) (k : ℕ × ℕ) (p : Seen)
+        → IsLegal pending w es → IsSound w → IsLasting w → StaysOpenAt w es k p → AllWriteElsewhere w es p
+        → is_dir (facts_of w) p ≡ false → node_of (replay w es) p ≡ node_of w p }
+    ensures world_bytes { (pending : Pending) (w : World) (es : List Entry) (k : ℕ × ℕ) (p : Seen)
+        → IsLegal pending w es → IsSound w → IsLasting w → StaysOpenAt w es k p → AllWriteElsewhere w es p
+        → bytes_of (replay w es) p ≡ bytes_of w p }
+    // and, from the start, along the later part of any legal history.
+    ensures start_node { (limits : Limits) (pending : Pending) (es fs : List Entry) (k : ℕ × ℕ) (p : Seen)
+        → IsLegal pending (start_world limits) (es ++ fs) → StaysOpenAt (replay (start_world limits) es) fs k p
+        → AllWriteElsewhere (replay (start_world limits) es) fs p
+        → is_dir (facts_of (replay (start_world limits) es)) p ≡ false
+        → node_of (replay (start_world limits) (es ++ fs)) p ≡ node_of (replay (start_world limits) es) p }
+    ensures start_bytes { (limits : Limits) (pending : Pending) (es fs : List Entry) (k : ℕ × ℕ) (p : Seen)
+        → IsLegal pending (start_world limits) (es ++ fs) → StaysOpenAt (replay (start_world limits) es) fs k p
+        → AllWriteElsewhere (replay (start_world limits) es) fs p
+        → bytes_of (replay (start_world limits) (es ++ fs)) p ≡ bytes_of (replay (start_world limits) es) p }
 {}
 
 /// A file that is open stays when its names go: a law of the model, with no code. The name may be dropped by `unlink`, or
