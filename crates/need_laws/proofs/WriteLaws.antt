@@ -16,7 +16,7 @@ use Rattle.vfs_tree.specs.Layers.{kind_in, store_by, base, is_dir, is_file, targ
 use Rattle.vfs_tree.specs.Mounts.{has_references, is_covered}
 use Rattle.vfs_tree.specs.Nodes.{next_of, node_at}
 use Rattle.vfs_tree.specs.Place.{Seen, Mem, Null, UnionUp, UnionLow, mount_of, bare}
-use Rattle.vfs_tree.specs.Sound.{AreFiles, IsSound}
+use Rattle.vfs_tree.specs.Sound.{is_null, is_union, names_mounts, AreFiles, IsSound}
 use Rattle.vfs_tree.specs.Start.{empty_store}
 use Rattle.vfs_tree.specs.Steps.{◌>>◌, refuse_if}
 use Rattle.vfs_tree.specs.StoreEdits.{removed, set_entry, clear_entry, renamed}
@@ -53,17 +53,18 @@ use Rattle.call_model.specs.declared.entry.Inner.{Inner}
 use Rattle.call_model.specs.declared.entry.Ref.{Ref}
 use Rattle.call_model.specs.declared.reply.Reply.{Reply}
 use Rattle.call_model.specs.declared.target.Target.{Target}
-use Rattle.call_laws.specs.Lasting.{IsLasting}
+use Rattle.call_laws.specs.Lasting.{lower_mount, IsOver, IsLasting}
 use Rattle.call_laws.proofs.DataParts.{keeps-descriptor}
 use Rattle.call_laws.proofs.NamedLaws.{no_way}
 use Rattle.call_laws.proofs.Parts.{Keeps, Any, found_so, refused, needed, weaker, then, unless}
 use Rattle.call_laws.proofs.PlaceLaws.{well_at}
-use Rattle.call_laws.proofs.SoundParts.{is_so}
+use Rattle.call_laws.proofs.SoundParts.{first_of, second_of, is_so, or_none, number_or}
 use Rattle.call_laws.proofs.SoundRows.{AnyNeed}
 use Rattle.call_laws.proofs.WalkLaws.{IsTarget, FoundWell}
 use Rattle.call_laws.proofs.Whole.{IsWhole}
+use Rattle.model_laws.proofs.FuelLaws.{stores_mem, stores_null, stores_union}
 use Rattle.layer_laws.specs.Apart.{IsApart}
-use Rattle.layer_laws.proofs.AvoidLaws.{same_base, avoids, avoids_base}
+use Rattle.layer_laws.proofs.AvoidLaws.{mem_kind, same_base}
 use Rattle.need_laws.specs.Above.{is_lower_file, AreWrittenAbove}
 use Rattle.need_laws.specs.Changed.{place_found, place_opened, changed_place, IsChangedAbove, ChangesAbove, IsInLayer}
 
@@ -539,6 +540,51 @@ module _ (w : World) (h : IsWhole w) (above : AreWrittenAbove w) where
 
 -- ---- stores that are changed
 
+-- the node of a place lies in one of the stores on which its mount rests, be that cut or not
+module _ (w : World) (sound : IsSound w) (s : ℕ) where
+  abbrev f : Facts
+  f = facts_of w
+
+  abbrev Rests : Seen → Type 0
+  Rests p = list_any (λ t. t == s) (stores f p) ≡ false
+
+  null_rests : (m : ℕ) (p : Seen) (o : Option MountKind) → kind_in f m ≡ o → is_null o ≡ true → lower_mount o ≡ Some (mount_of p) → Rests (Null m p) → Rests p
+  null_rests m p (Some (kind.Null layer)) is null over none =
+      subst (λ (x : ℕ). list_any (λ t. t == s) (stores_within (suc x) f x) ≡ false) (ap number_or over)
+      (subst (λ (ss : List ℕ). list_any (λ t. t == s) ss ≡ false) (stores_null w (Null m p) layer sound is) none)
+  null_rests m p (Some kind.Mem) is null over none = no_way null
+  null_rests m p (Some (kind.Union t u lower)) is null over none = no_way null
+  null_rests m p None is null over none = no_way null
+
+  -- a union rests on the store of its upper layer, and on those of the lower one
+  union_rests : (p : Seen) (t top : ℕ) (lower : Seen) → kind_in f (mount_of p) ≡ Some (kind.Union t top lower) → Rests p → ((t == s) ≡ false) × Rests lower
+  union_rests p t top lower is none =
+      or_none (t == s) (list_any (λ t. t == s) (stores f lower)) (subst (λ (ss : List ℕ). list_any (λ t. t == s) ss ≡ false) (stores_union w p lower t top sound is) none)
+
+  low_rests : (m u : ℕ) (n : List ℕ) (p : Seen) (o : Option MountKind) → kind_in f m ≡ o → is_union o ≡ true → lower_mount o ≡ Some (mount_of p) → Rests (UnionLow m u n p) → Rests p
+  low_rests m u n p (Some (kind.Union t top lower)) is union over none =
+      subst (λ (x : ℕ). list_any (λ t. t == s) (stores_within (suc x) f x) ≡ false) (ap number_or over) (union_rests (UnionLow m u n p) t top lower is none).1
+  low_rests m u n p (Some kind.Mem) is union over none = no_way union
+  low_rests m u n p (Some (kind.Null layer)) is union over none = no_way union
+  low_rests m u n p None is union over none = no_way union
+
+  upper_rests : (m i : ℕ) (o : Option MountKind) → kind_in f m ≡ o → is_union o ≡ true → Rests (UnionUp m i) → (store_by o == s) ≡ false
+  upper_rests m i (Some (kind.Union t top lower)) is union none = (union_rests (UnionUp m i) t top lower is none).0
+  upper_rests m i (Some kind.Mem) is union none = no_way union
+  upper_rests m i (Some (kind.Null layer)) is union none = no_way union
+  upper_rests m i None is union none = no_way union
+
+  other_store : (p : Seen) → names_mounts f p ≡ true → IsOver f p → Rests p → ((base f p).store == s) ≡ false
+  other_store (Mem m i) names over none =
+      (or_none (m == s) false (subst (λ (ss : List ℕ). list_any (λ t. t == s) ss ≡ false) (stores_mem w (Mem m i) (mem_kind (kind_in f m) names)) none)).0
+  other_store (Null m p) names over none =
+      other_store p (second_of (is_null (kind_in f m)) (names_mounts f p) names) over.1
+      (null_rests m p (kind_in f m) refl (first_of (is_null (kind_in f m)) (names_mounts f p) names) over.0 none)
+  other_store (UnionUp m i) names over none = upper_rests m i (kind_in f m) refl names none
+  other_store (UnionLow m u n p) names over none =
+      other_store p (second_of (is_union (kind_in f m)) (names_mounts f p) names) over.1
+      (low_rests m u n p (kind_in f m) refl (first_of (is_union (kind_in f m)) (names_mounts f p) names) over.0 none)
+
 pub changes_above : (w : World) (c : ℕ) (x : Call) (r : Reply) (s : ℕ) → IsSound w → IsLasting w → AreWrittenAbove w → ChangesAbove w (after w (entry.Call c x r)) (changed_place w c x) s
 changes_above w c x r s sound lasts above = (left-call w (record { sound = sound; lasts = lasts }) above c x r).stores s
 
@@ -567,7 +613,7 @@ changes_lower w c x r m s top i lower p q sound lasts apart above union is up se
     let b : NodeId = base (facts_of w) q in
     let none : list_any (λ t. t == s) (stores (facts_of w) q) ≡ false =
     ap (λ n. list_any (λ t. t == s) (stores_within (suc n) (facts_of w) n)) seen.mount ∙ apart m s top lower union in
-    let other : (b.store == s) ≡ false = avoids_base w h s q (avoids w h s q seen.names seen.uncut seen.over none) in
+    let other : (b.store == s) ≡ false = other_store w sound s q seen.names seen.over none in
     let its : (base (facts_of w) p).store ≡ s =
     ap (λ (n : NodeId). n.store) (sym (bare_base (facts_of w) p)) ∙ ap (λ d. (base (facts_of w) d).store) up ∙ ap store_by union in
     ap (λ (n : NodeId). node_at v n.store n.ino) (same_base (facts_of w) (facts_of v) (λ n. ap (λ t. get t n) mounts) q)

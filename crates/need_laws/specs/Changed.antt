@@ -12,7 +12,7 @@ use Rattle.vfs_tree.specs.declared.world.World.{World}
 use Rattle.call_model.specs.Rows.{first_found, second_found}
 use Rattle.call_model.specs.declared.call.Call.{Call}
 use Rattle.call_model.specs.declared.call.Call.TheVariants as call
-use Rattle.call_laws.specs.Lasting.{IsOver, IsUncut}
+use Rattle.call_laws.specs.Lasting.{IsOver}
 use Rattle.need_laws.specs.Above.{is_lower_file}
 
 -- ---- what a call changes
@@ -56,9 +56,8 @@ ChangesAbove old new o s = (get new.stores s ≡ get old.stores s) ⊎ (IsChange
 
 -- ---- places of a layer
 
--- a place in the mount of a layer, through mounts that are there and aren't cut
+-- a place in the mount of a layer, through mounts that are there, cut or not
 pub record IsInLayer (f : Facts) (layer p : Seen) : Type 0 where
   pub mount : mount_of p ≡ mount_of layer
   pub names : names_mounts f p ≡ true
-  pub uncut : IsUncut f p
   pub over : IsOver f p

@@ -50,7 +50,8 @@ pub fn calls_change_nodes_above()
         → IsSound w → IsLasting w → AreWrittenAbove w
         → changed_place w c call ≡ Some p → is_lower_file p ≡ true
         → get (after w (entry.Call c call r)).stores s ≡ get w.stores s }
-    // Through a file or directory of a union's upper layer, each node that is seen in the lower layer stays as it was.
+    // Through a file or directory of a union's upper layer, each node that is seen in the lower layer stays as it was,
+    // also where forced unmounts have cut off the union or mounts of that layer.
     ensures lower { (w : World) (c : ℕ) (call : Call) (r : Reply) (m s top i : ℕ) (lower p q : Seen)
         → IsSound w → IsLasting w → IsApart w → AreWrittenAbove w
         → kind_in (facts_of w) m ≡ Some (kind.Union s top lower)
