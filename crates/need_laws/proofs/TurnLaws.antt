@@ -1,6 +1,6 @@
 -- A copy of a file of the lower layer, and the open files that turn to it.
-use Rattle.std.proofs.Common.{◌≡◌, ℕ, suc, Bool, true, false, cond, ◌&&◌, ◌||◌, ◌==◌, List, refl, ap, sym, ◌∙◌, subst, eqb-true}
-use Rattle.std.specs.Prelude.{Option, Some, None, IsSome, IfSome, is_some, option_map, option_and_then}
+use Rattle.std.proofs.Common.{◌≡◌, ℕ, suc, Bool, true, false, cond, not, ◌&&◌, ◌||◌, ◌==◌, List, refl, ap, sym, ◌∙◌, subst, eqb-true}
+use Rattle.std.specs.Prelude.{Option, Some, None, IsSome, IfSome, is_some, option_map, option_and_then, nat_lt}
 use Rattle.std.specs.Str.{bytes_eq}
 use Rattle.std.specs.Cmp.{nat_cmp_total}
 use Rattle.std.specs.FinMap.{get, insert}
@@ -10,9 +10,11 @@ use Rattle.vfs_tree.specs.Edits.{made, with_store}
 use Rattle.vfs_tree.specs.Facts.{Facts}
 use Rattle.vfs_tree.specs.Layers.{kind_in, store_by, base, is_cut, is_dir, is_dir_kind, kind_of, is_linked, linked_by, same_place}
 use Rattle.vfs_tree.specs.Nodes.{next_of, entry_in, node_at, AreBelow}
-use Rattle.vfs_tree.specs.Place.{Seen, Mem, Null, UnionUp, UnionLow}
+use Rattle.vfs_tree.specs.Place.{Seen, Mem, Null, UnionUp, UnionLow, bare}
 use Rattle.vfs_tree.specs.Sound.{is_union, IsSound}
+use Rattle.vfs_tree.specs.Steps.{◌>>=◌, ◌>>◌, refuse_if}
 use Rattle.vfs_tree.specs.Views.{kind_of_node, facts_in, dir_in, facts_of}
+use Rattle.vfs_tree.specs.declared.errno.Errno.TheVariants as errno
 use Rattle.vfs_tree.specs.declared.mount.MountKind.{MountKind}
 use Rattle.vfs_tree.specs.declared.mount.MountKind.TheVariants as kind
 use Rattle.vfs_tree.specs.declared.node.NameEntry.{NameEntry}
@@ -24,10 +26,15 @@ use Rattle.vfs_tree.specs.declared.open.Open.{Open}
 use Rattle.vfs_tree.specs.declared.walk.Child.{Child}
 use Rattle.vfs_tree.specs.declared.walk.Child.TheVariants as child
 use Rattle.vfs_tree.specs.declared.walk.NodeId.{NodeId}
+use Rattle.vfs_tree.specs.declared.walk.Step.TheVariants.{Go}
 use Rattle.vfs_tree.specs.declared.world.World.{World}
-use Rattle.call_model.specs.Checks.{node_of}
+use Rattle.call_model.specs.Apply.{Applied, settle, apply}
+use Rattle.call_model.specs.Checks.{Outcome, node_of}
+use Rattle.call_model.specs.DataRows.{contents, bytes_of, piece, most_moved, opened}
 use Rattle.call_model.specs.Effects.{turned, turned_open, turned_opens, copy_of, copied_child, effect}
+use Rattle.call_model.specs.declared.call.Call.TheVariants as call
 use Rattle.call_model.specs.declared.entry.Inner.TheVariants.{CopyUp}
+use Rattle.call_model.specs.declared.reply.Reply.TheVariants as reply
 use Rattle.call_laws.specs.Lasting.{IsLasting}
 use Rattle.call_laws.specs.Needing.{IsFree}
 use Rattle.call_laws.proofs.FlagLaws.{get_each}
@@ -38,10 +45,12 @@ use Rattle.call_laws.proofs.PlaceLaws.{good_view}
 use Rattle.call_laws.proofs.SoundMade.{IsDirAt, dir_at}
 use Rattle.call_laws.proofs.SoundParts.{first_of, second_of, or_none}
 use Rattle.call_laws.proofs.Whole.{IsWhole}
+use Rattle.model_laws.proofs.FileLaws.{same_bytes}
 use Rattle.layer_laws.proofs.LowerLaws.{Stands}
 use Rattle.layer_laws.proofs.MadeStores.{node_new, entry_new}
 use Rattle.layer_laws.proofs.NestLaws.{Under, child_from, nests-lower, child_looking, child_nests}
-use Rattle.need_laws.specs.Turning.{is_seen_over, TurnsTo}
+use Rattle.need_laws.specs.Turning.{is_seen_over, TurnsTo, AreOpenAlike}
+use Rattle.need_laws.proofs.WriteLaws.{bare_base}
 
 -- ---- places that turn
 
@@ -94,6 +103,41 @@ module _ (m u : ℕ) (n : List ℕ) (q : Seen) (i : ℕ) where
   unturned (UnionLow l v a p) e =
       let x = or_none (same_place from (UnionLow l v a p)) (is_seen_over from p) e in
       ap (λ b. cond b to (UnionLow l v a (turned from to p))) x.0 ∙ ap (UnionLow l v a) (unturned p x.1)
+
+-- ---- reads
+
+abbrev place_or : Option Open → Open → Seen
+place_or (Some x) o = x.place
+place_or None o = o.place
+
+-- what a read answers that passes these checks
+abbrev checked : Bool → Bool → Bool → ℕ → Outcome → Outcome
+checked dead reads dir n found = (refuse_if dead errno.EIO >> (refuse_if (not reads) errno.EBADF >> (refuse_if dir errno.EISDIR >> refuse_if (nat_lt most_moved n) errno.EINVAL))) >> found
+
+-- descriptors that are open alike at one node read the same
+module _ (v : World) (a d b e n at : ℕ) (p q : Seen) (alike : AreOpenAlike v (a, d) (b, e) p q) (is : base (facts_of v) p ≡ base (facts_of v) q) where
+  abbrev x : Open
+  x = alike.one
+
+  abbrev y : Open
+  y = alike.other
+
+  same : base (facts_of v) x.place ≡ base (facts_of v) y.place
+  same = ap (base (facts_of v)) alike.place ∙ is ∙ sym (ap (base (facts_of v)) alike.other_place)
+
+  abbrev answer : Option Open → Applied
+  answer o = settle v (opened o >>= (λ (z : Open). checked z.dead z.mode.read (is_dir (facts_of v) z.place) n (Go (v, reply.Bytes (piece (bytes_of v z.place) at n)))))
+
+  abbrev answer_by : Bool → Bool → NodeId → Applied
+  answer_by dead reads b = settle v (checked dead reads (is_dir_kind ((facts_of v).kind b.store b.ino)) n (Go (v, reply.Bytes (piece (contents (node_at v b.store b.ino)) at n))))
+
+  same_pread : apply v a (call.Pread d n at) ≡ apply v b (call.Pread e n at)
+  same_pread =
+      ap answer alike.at
+      ∙ ap (λ dead. answer_by dead x.mode.read (base (facts_of v) x.place)) alike.dead
+      ∙ ap (λ reads. answer_by y.dead reads (base (facts_of v) x.place)) alike.reads
+      ∙ ap (answer_by y.dead y.mode.read) same
+      ∙ sym (ap answer alike.other_at)
 
 -- ---- the copy
 
@@ -289,6 +333,26 @@ pub copy_older : (w : World) (c m s top u : ℕ) (lower q : Seen) (n : List ℕ)
 copy_older w c m s top u lower q n k o sound lasts is cut there at over =
     let h : IsWhole w = record { sound = sound; lasts = lasts } in
     subst (λ (v : World). TurnsTo w v k o (UnionUp m (next_of (get w.stores s)))) (sym (effect_is w h m s top lower is cut u n q there c)) (older_in w h m s top lower is cut u n q there k o at over)
+
+-- what rests on the copy's node has its bytes
+module _ (w v : World) (c m s top u : ℕ) (lower p q : Seen) (n : List ℕ) (k : ℕ × ℕ) (o new : Open) where
+  copy_base : IsSound w → IsLasting w → kind_in (facts_of w) m ≡ Some (kind.Union s top lower) → is_cut (facts_of w) m ≡ false → child_of (facts_of w) (UnionUp m u) n ≡ child.At (UnionLow m u n q)
+      → get w.opens k ≡ Some o → is_seen_over (UnionLow m u n q) o.place ≡ true → get (effect w c (CopyUp m u n)).opens k ≡ Some new → bare p ≡ UnionUp m (next_of (get w.stores s))
+      → base (facts_of v) new.place ≡ base (facts_of v) p
+  copy_base sound lasts is cut there at over turned up =
+      let t = copy_older w c m s top u lower q n k o sound lasts is cut there at over in
+      ap (λ (x : Option Open). base (facts_of v) (place_or x new)) (sym turned ∙ t.at) ∙ t.base (facts_of v) ∙ sym (ap (base (facts_of v)) up) ∙ bare_base (facts_of v) p
+
+  pub copy_reads : IsSound w → IsLasting w → kind_in (facts_of w) m ≡ Some (kind.Union s top lower) → is_cut (facts_of w) m ≡ false → child_of (facts_of w) (UnionUp m u) n ≡ child.At (UnionLow m u n q)
+      → get w.opens k ≡ Some o → is_seen_over (UnionLow m u n q) o.place ≡ true → get (effect w c (CopyUp m u n)).opens k ≡ Some new → bare p ≡ UnionUp m (next_of (get w.stores s))
+      → bytes_of v new.place ≡ bytes_of v p
+  copy_reads sound lasts is cut there at over turned up = same_bytes v new.place p (copy_base sound lasts is cut there at over turned up)
+
+  pub copy_pread : (a d b e count at : ℕ) → IsSound w → IsLasting w → kind_in (facts_of w) m ≡ Some (kind.Union s top lower) → is_cut (facts_of w) m ≡ false → child_of (facts_of w) (UnionUp m u) n ≡ child.At (UnionLow m u n q)
+      → get w.opens k ≡ Some o → is_seen_over (UnionLow m u n q) o.place ≡ true → get (effect w c (CopyUp m u n)).opens k ≡ Some new → bare p ≡ UnionUp m (next_of (get w.stores s))
+      → AreOpenAlike v (a, d) (b, e) new.place p → apply v a (call.Pread d count at) ≡ apply v b (call.Pread e count at)
+  copy_pread a d b e count at sound lasts is cut there held over turned up alike =
+      same_pread v a d b e count at new.place p alike (copy_base sound lasts is cut there held over turned up)
 
 pub copy_others : (w : World) (c m s top u : ℕ) (lower q : Seen) (n : List ℕ) (k : ℕ × ℕ) (o : Open) → IsSound w → IsLasting w → kind_in (facts_of w) m ≡ Some (kind.Union s top lower) → is_cut (facts_of w) m ≡ false
     → child_of (facts_of w) (UnionUp m u) n ≡ child.At (UnionLow m u n q) → get w.opens k ≡ Some o → is_seen_over (UnionLow m u n q) o.place ≡ false

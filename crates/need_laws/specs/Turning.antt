@@ -23,3 +23,14 @@ pub record TurnsTo (old new : World) (k : ℕ × ℕ) (o : Open) (to : Seen) : T
   pub base : (f : Facts) → base f place ≡ base f to
   -- what it reads right after is what it read before
   pub same : node_of new place ≡ node_of old o.place
+
+-- two descriptors are open at these places; both are dead or neither is, and both are for reading or neither is
+pub record AreOpenAlike (w : World) (j k : ℕ × ℕ) (p q : Seen) : Type 0 where
+  pub one : Open
+  pub other : Open
+  pub at : get w.opens j ≡ Some one
+  pub other_at : get w.opens k ≡ Some other
+  pub place : one.place ≡ p
+  pub other_place : other.place ≡ q
+  pub dead : one.dead ≡ other.dead
+  pub reads : one.mode.read ≡ other.mode.read
