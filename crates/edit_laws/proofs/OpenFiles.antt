@@ -11,6 +11,7 @@ use Rattle.vfs_tree.specs.Sound.{is_mem, is_null, is_union, names_mounts, IsSoun
 use Rattle.vfs_tree.specs.Start.{start_world}
 use Rattle.vfs_tree.specs.Steps.{◌>>=◌, ◌>>◌, refuse_if}
 use Rattle.vfs_tree.specs.Views.{kind_of_node, is_linked_in, facts_of}
+use Rattle.vfs_tree.specs.declared.errno.Errno.{Errno}
 use Rattle.vfs_tree.specs.declared.errno.Errno.TheVariants as errno
 use Rattle.vfs_tree.specs.declared.limits.Limits.{Limits}
 use Rattle.vfs_tree.specs.declared.mount.Mount.{Mount}
@@ -27,7 +28,7 @@ use Rattle.call_model.specs.Apply.{Applied, Finished, Needs, apply, settle}
 use Rattle.call_model.specs.Checks.{Outcome, node_of}
 use Rattle.call_model.specs.DataRows.{contents, bytes_of, opened, piece, most_moved, with_offset}
 use Rattle.call_model.specs.Kept.{is_open_on, is_cwd_on, is_mounted_on, kept, kept_store}
-use Rattle.call_model.specs.Legal.{Pending, IsLegal, IsLegalFrom, after, doomers_after, doomers_in, replay, world_after}
+use Rattle.call_model.specs.Legal.{Pending, IsLegal, IsLegalFrom, after, doomers_after, doomers_in, is_no_memory, replay, world_after}
 use Rattle.call_model.specs.declared.call.Call.{Call}
 use Rattle.call_model.specs.declared.call.Call.TheVariants as call
 use Rattle.call_model.specs.declared.entry.Entry.{Entry}
@@ -40,11 +41,12 @@ use Rattle.call_laws.proofs.KeptLaws.{store_kept, node_kept}
 use Rattle.call_laws.proofs.NamedLaws.{no_way, value_any}
 use Rattle.call_laws.proofs.PlaceLaws.{lasting-start}
 use Rattle.call_laws.proofs.PrefixLaws.{legal-before, legal-after, replay-joined}
+use Rattle.call_laws.proofs.RefusalLaws.{failed_row}
 use Rattle.call_laws.proofs.SoundLaws.{sound-start}
 use Rattle.call_laws.proofs.SoundParts.{second_of, both_of, mem_there, mount_there}
 use Rattle.call_laws.proofs.Whole.{IsWhole}
 use Rattle.call_laws.proofs.WorldLaws.{sound_call, whole-history}
-use Rattle.edit_laws.specs.Contents.{WritesElsewhere, AllWriteElsewhere, IsOpenAt, StaysOpenAt, DropsFiles}
+use Rattle.edit_laws.specs.Contents.{written_place, is_done, WritesElsewhere, AllWriteElsewhere, IsOpenAt, StaysOpenAt, DropsFiles}
 use Rattle.edit_laws.proofs.HistoryTells.{right_whole}
 use Rattle.edit_laws.proofs.KeptNodes.{StaysNode, KeepsNodes, KeepsNode, HasFewer, one_of, call_keeps, call_kept, inner_keeps, after_umount, after_force, after_drop}
 
@@ -136,6 +138,12 @@ open_place w k o sound at alive = subst (λ x. IfSome x (λ o. o.dead ≡ false 
 sound_at : (w : World) (k : ℕ × ℕ) (p : Seen) → IsSound w → IsOpenAt w k p → IsSoundPlace (facts_of w) p
 sound_at w k p sound x = subst (IsSoundPlace (facts_of w)) x.place (open_place w k x.file sound x.at x.live)
 
+-- what isn't done leaves the world
+left_same : (w : World) (a : Applied) → ((new : World) (e : Errno) → a ≡ Finished new (reply.Fail e) → new ≡ w) → is_done a ≡ false → world_after w a ≡ w
+left_same w (Finished new (reply.Fail e)) stays off = stays new e refl
+left_same w (Finished new _) stays off = no_way (sym off)
+left_same w (Needs x) stays off = refl
+
 module _ (w : World) (k : ℕ × ℕ) (p : Seen) (sound : IsSound w) (lasts : IsLasting w) (before : IsOpenAt w k p) where
   by_kept : (e : Entry) → KeepsNode (base (facts_of w) p) w (after w e) → IsOpenAt (after w e) k p → SameFile w (after w e) p
   by_kept e keeps there = kept_file w (after w e) p keeps (sound_at w k p sound before)
@@ -143,13 +151,24 @@ module _ (w : World) (k : ℕ × ℕ) (p : Seen) (sound : IsSound w) (lasts : Is
   by_fewer : (c : ℕ) (x : Call) (r : Reply) → HasFewer w (after w (entry.Call c x r)) → IsOpenAt (after w (entry.Call c x r)) k p → SameFile w (after w (entry.Call c x r)) p
   by_fewer c x r fewer there = let v = after w (entry.Call c x r) in fewer_file w v p fewer (sound_at v k p (sound_call w c x r sound lasts) there)
 
-  call_same : (c : ℕ) (x : Call) (r : Reply) → WritesElsewhere w (entry.Call c x r) p → IsOpenAt (after w (entry.Call c x r)) k p → SameFile w (after w (entry.Call c x r)) p
+  call_same : (c : ℕ) (x : Call) (r : Reply) → IfSome (written_place w c x) (λ q. same_node (base (facts_of w) q) (base (facts_of w) p) ≡ false) → IsOpenAt (after w (entry.Call c x r)) k p → SameFile w (after w (entry.Call c x r)) p
   call_same c (call.Umount a) r away = by_fewer c (call.Umount a) r (after_umount w c a r)
   call_same c (call.UmountForce a) r away = by_fewer c (call.UmountForce a) r (after_force w c a r)
   call_same c x r away = by_kept (entry.Call c x r) (call_kept w (base (facts_of w) p) lasts c x r (λ y. y) away)
 
+  -- where nothing is changed
+  same_left : (v : World) → v ≡ w → SameFile w v p
+  same_left v is = record { node = λ _. ap (λ v. node_of v p) is; bytes = ap (λ v. bytes_of v p) is }
+
+  call_or : (c : ℕ) (x : Call) (r : Reply) (lacks done : Bool) → is_no_memory r ≡ lacks → is_done (apply w c x) ≡ done → WritesElsewhere w (entry.Call c x r) p → IsOpenAt (after w (entry.Call c x r)) k p
+      → SameFile w (after w (entry.Call c x r)) p
+  call_or c x r true done memory is away there = same_left (after w (entry.Call c x r)) (ap (λ b. cond b w (world_after w (apply w c x))) memory)
+  call_or c x r false true memory is away there = call_same c x r (away memory is) there
+  call_or c x r false false memory is away there =
+      same_left (after w (entry.Call c x r)) (ap (λ b. cond b w (world_after w (apply w c x))) memory ∙ left_same w (apply w c x) (λ new e. failed_row w new c x e) is)
+
   entry_same : (e : Entry) → WritesElsewhere w e p → IsOpenAt (after w e) k p → SameFile w (after w e) p
-  entry_same (entry.Call c x r) away = call_same c x r away
+  entry_same (entry.Call c x r) away = call_or c x r (is_no_memory r) (is_done (apply w c x)) refl refl away
   entry_same (entry.Inner c x) away = by_kept (entry.Inner c x) (one_of (base (facts_of w) p) w (after w (entry.Inner c x)) (inner_keeps w lasts c x))
 
 pub open_node : (w : World) (e : Entry) (k : ℕ × ℕ) (p : Seen) → IsSound w → IsLasting w → IsOpenAt w k p → IsOpenAt (after w e) k p → WritesElsewhere w e p → is_dir (facts_of w) p ≡ false → node_of (after w e) p ≡ node_of w p

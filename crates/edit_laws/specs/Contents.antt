@@ -1,5 +1,5 @@
 -- Entries that write to files, calls that drop names of files, and files that stay open.
-use Rattle.std.specs.Prelude.{ℕ, ◌≡◌, false, if◌then◌else◌, List, [], ◌∷◌, Option, Some, None, IfSome, option_map}
+use Rattle.std.specs.Prelude.{ℕ, ◌≡◌, Bool, true, false, not, if◌then◌else◌, List, [], ◌∷◌, Option, Some, None, IfSome, option_map}
 use Rattle.std.specs.FinMap.{get}
 use Rattle.vfs_tree.specs.Layers.{base, same_node}
 use Rattle.vfs_tree.specs.Place.{Seen}
@@ -8,7 +8,9 @@ use Rattle.vfs_tree.specs.declared.open.Open.{Open}
 use Rattle.vfs_tree.specs.declared.walk.Found.{Found}
 use Rattle.vfs_tree.specs.declared.walk.Found.TheVariants as found
 use Rattle.vfs_tree.specs.declared.world.World.{World}
-use Rattle.call_model.specs.Legal.{after}
+use Rattle.call_model.specs.Apply.{Applied, Finished, Needs, apply}
+use Rattle.call_model.specs.Legal.{after, is_no_memory}
+use Rattle.call_model.specs.NameEdits.{is_fail}
 use Rattle.call_model.specs.Rows.{first_found}
 use Rattle.call_model.specs.declared.call.Call.{Call}
 use Rattle.call_model.specs.declared.call.Call.TheVariants as call
@@ -26,8 +28,8 @@ place_found _ = None
 abbrev pub place_opened : World → ℕ → ℕ → Option Seen
 place_opened w c d = option_map (λ o. o.place) (get w.opens (c, d))
 
--- the file to which a call writes or gives a length, if it isn't refused. An `open` cuts what is there already. All
--- calls that aren't listed write to none.
+-- the file to which a call writes or gives a length, where it is done. An `open` cuts what is there already. All calls
+-- that aren't listed write to none.
 abbrev pub written_place : World → ℕ → Call → Option Seen
 written_place w c (call.Write d bytes) = place_opened w c d
 written_place w c (call.Pwrite d o bytes) = place_opened w c d
@@ -36,10 +38,17 @@ written_place w c (call.Ftruncate d n) = place_opened w c d
 written_place w c (call.Open p f) = if f.cut then place_found (first_found w c (call.Open p f)) else None
 written_place w c _ = None
 
--- an entry writes to no file, or to one that rests on another node than a place
+-- whether a call is done: it needs nothing first and isn't refused
+abbrev pub is_done : Applied → Bool
+is_done (Finished new r) = not (is_fail r)
+is_done (Needs x) = false
+
+-- an entry writes to no file, or to one that rests on another node than a place; a call that finds no memory or isn't
+-- done writes to none
 abbrev pub WritesElsewhere : World → Entry → Seen → Type 0
 WritesElsewhere w (entry.Call c call r) p =
-    IfSome (written_place w c call) (λ q. same_node (base (facts_of w) q) (base (facts_of w) p) ≡ false)
+    is_no_memory r ≡ false → is_done (apply w c call) ≡ true
+    → IfSome (written_place w c call) (λ q. same_node (base (facts_of w) q) (base (facts_of w) p) ≡ false)
 WritesElsewhere w (entry.Inner c x) p = Unit {0}
 
 -- so does each entry of a history
