@@ -12,29 +12,33 @@ use Rattle.std.proofs.lemmas.Map.Lookups.{CmpEqualImpliesEq, exact_unsigned}
 use Rattle.finite_maps.specs.Keys.{pair_cmp}
 use Rattle.finite_maps.proofs.EntryLaws.{pair_total, pair_exact}
 use Rattle.vfs_tree.specs.Facts.{Facts}
-use Rattle.vfs_tree.specs.Layers.{depth}
+use Rattle.vfs_tree.specs.Layers.{base, same_node, depth}
 use Rattle.vfs_tree.specs.Mounts.{is_of}
 use Rattle.vfs_tree.specs.Place.{Seen, mount_of}
 use Rattle.vfs_tree.specs.Views.{facts_of}
 use Rattle.vfs_tree.specs.declared.open.Cwd.{Cwd}
 use Rattle.vfs_tree.specs.declared.open.Open.{Open}
 use Rattle.vfs_tree.specs.declared.walk.Step.TheVariants.{Go, Wants}
+use Rattle.vfs_tree.specs.declared.walk.NodeId.{NodeId}
 use Rattle.vfs_tree.specs.declared.world.World.{World}
 use Rattle.call_model.specs.Checks.{Outcome}
-use Rattle.call_model.specs.MountRows.{left, doom_next}
-use Rattle.call_model.specs.Refs.{Reference, comes_before, first_case, first_of_two, stands_first, first, first_in, open_reference, cwd_reference, open_references, references}
+use Rattle.call_model.specs.MountRows.{left, doom_next, revoke_next}
+use Rattle.call_model.specs.Refs.{Reference, comes_before, first_case, first_of_two, stands_first, first, first_in, open_reference, cwd_reference, open_references, references, place_of}
 use Rattle.call_model.specs.Rows.{row}
 use Rattle.call_model.specs.declared.call.Call.TheVariants as call
 use Rattle.call_model.specs.declared.entry.Ref.{Ref}
 use Rattle.call_model.specs.declared.entry.Ref.TheVariants.{Fd, Cwd as Here}
 use Rattle.call_model.specs.declared.entry.Inner.TheVariants.{Doom}
 use Rattle.call_model.specs.declared.reply.Reply.TheVariants as reply
+use Rattle.call_laws.specs.Fitting.{IsLive}
 use Rattle.call_laws.specs.Leaving.{IsLeaver}
+use Rattle.call_laws.specs.Revoking.{first_open_on, IsRevoking}
 use Rattle.call_laws.proofs.NamedLaws.{no_way}
+use Rattle.call_laws.proofs.RevokeLaws.{revoking_row, revoking_first}
 use Rattle.call_laws.proofs.RowLaws.{leaver_row}
 use Rattle.call_laws.proofs.SoundParts.{first_of, second_of, both_of, or_first, or_second, not_so}
 use Rattle.call_laws.proofs.WeightLaws.{all_given}
-use Rattle.layer_laws.specs.Deepest.{IsInside, IsDeepest}
+use Rattle.layer_laws.specs.Deepest.{IsInside, IsDescriptor, IsOpenOn, IsDeepestOf, IsDeepest, IsDeepestOn}
 
 abbrev or_place : Seen → Option Seen → Seen
 or_place p (Some q) = q
@@ -201,69 +205,8 @@ alive false e = refl
 
 -- ---- the references of a world
 
-module _ (w : World) (m : ℕ) where
-  abbrev among : Reference → Bool
-  among r = is_of w.mounts m (mount_of r.place)
-
-  -- a reference that isn't dead and stands there
-  abbrev Inside : Reference → Type 0
-  Inside r = r.dead ≡ false → among r ≡ true → IsInside w m r.at r.place
-
-  open_inside : (e : (ℕ × ℕ) × Open) → get w.opens e.0 ≡ Some e.1 → Inside (open_reference e)
-  open_inside e is alive inside = record {
-    live = (subst (λ x. IfSome x (λ o. o.dead ≡ false)) (sym is) alive, ap is_some is);
-    here = ap (option_map (λ (o : Open). o.place)) is;
-    inside = inside;
-  }
-
-  cwd_inside : (e : ℕ × Cwd) → get w.cwds e.0 ≡ Some e.1 → Inside (cwd_reference e)
-  cwd_inside e is alive inside = record {
-    live = (subst (λ x. IfSome x (λ d. d.dead ≡ false)) (sym is) alive, ap is_some is);
-    here = ap (option_map (λ (d : Cwd). d.place)) is;
-    inside = inside;
-  }
-
-  opens_inside : (es : List ((ℕ × ℕ) × Open)) → AllByRecursion (λ e. get w.opens e.0 ≡ Some e.1) es → AllByRecursion Inside (map open_reference es)
-  opens_inside [] h = tt
-  opens_inside (e ∷ es) h = (open_inside e h.0, opens_inside es h.1)
-
-  cwds_inside : (es : List (ℕ × Cwd)) → AllByRecursion (λ e. get w.cwds e.0 ≡ Some e.1) es → AllByRecursion Inside (map cwd_reference es)
-  cwds_inside [] h = tt
-  cwds_inside (e ∷ es) h = (cwd_inside e h.0, cwds_inside es h.1)
-
-  all_joined : (P : Reference → Type 0) (xs ys : List Reference) → AllByRecursion P xs → AllByRecursion P ys → AllByRecursion P (xs ++ ys)
-  all_joined P [] ys h k = k
-  all_joined P (x ∷ xs) ys h k = (h.0, all_joined P xs ys h.1 k)
-
-  refs_inside : AllByRecursion Inside (references w)
-  refs_inside =
-      all_joined Inside (open_references w) (map cwd_reference (entries w.cwds)) (opens_inside (entries w.opens) (all_given pair_cmp pair_total w.opens)) (cwds_inside (entries w.cwds) (all_given nat_cmp nat_cmp_total w.cwds))
-
-  abbrev kept : List Reference → List Reference
-  kept rs = filter (λ r. not r.dead && among r) rs
-
-  kept_inside : (rs : List Reference) → AllByRecursion Inside rs → AllByRecursion (λ r. IsInside w m r.at r.place) (kept rs)
-  kept_inside [] h = tt
-  kept_inside (r ∷ rs) h = by (kept_inside rs h.1) (not r.dead && among r) refl
-    where
-      by : AllByRecursion (λ r. IsInside w m r.at r.place) (kept rs) → (b : Bool) → (not r.dead && among r) ≡ b → AllByRecursion (λ r. IsInside w m r.at r.place) (cond b (r ∷ kept rs) (kept rs))
-      by rest true e = (h.0 (alive r.dead (first_of (not r.dead) (among r) e)) (second_of (not r.dead) (among r) e), rest)
-      by rest false e = rest
-
-  -- what holds of all that are kept holds of each that stands there
-  module _ (Q : Reference → Type 0) where
-    unkept : (rs : List Reference) → AllByRecursion Q (kept rs) → AllByRecursion (λ r. r.dead ≡ false → among r ≡ true → Q r) rs
-    unkept [] h = tt
-    unkept (r ∷ rs) h = by (λ k. unkept rs k) (not r.dead && among r) refl h
-      where
-        by : (AllByRecursion Q (kept rs) → AllByRecursion (λ r. r.dead ≡ false → among r ≡ true → Q r) rs) → (b : Bool) → (not r.dead && among r) ≡ b → AllByRecursion Q (cond b (r ∷ kept rs) (kept rs))
-            → AllByRecursion (λ r. r.dead ≡ false → among r ≡ true → Q r) (r ∷ rs)
-        by more true e k = (λ alive inside. k.0, more k.1)
-        by more false e k = (λ alive inside. no_way (sym e ∙ both_of (not r.dead) (among r) (ap not alive) inside), more k)
-
-  parted : (P : Reference → Type 0) (xs ys : List Reference) → AllByRecursion P (xs ++ ys) → AllByRecursion P xs × AllByRecursion P ys
-  parted P [] ys h = (tt, h)
-  parted P (x ∷ xs) ys h = let k = parted P xs ys h.1 in ((h.0, k.0), k.1)
+abbrev live_at : Ref → Seen → Reference
+live_at r p = record { at = r; place = p; dead = false }
 
 abbrev or_this : {X : Type 0} → X → Option X → X
 or_this y (Some z) = z
@@ -284,54 +227,125 @@ at_given R exact g P (x ∷ es) h k v e =
       | false ↦ λ is s. at_given R exact g P es h.1 k v s
     ] refl e
 
-module _ (w : World) (m : ℕ) (b : Reference) (is : first (facts_of w) (kept w m (references w)) ≡ Some b) where
-  behind : AllByRecursion (λ r. r.dead ≡ false → among w m r ≡ true → Behind (facts_of w) b r) (references w)
-  behind = unkept w m (Behind (facts_of w) b) (references w) (all_behind (facts_of w) (kept w m (references w)) None b is).1
+all_joined : (P : Reference → Type 0) (xs ys : List Reference) → AllByRecursion P xs → AllByRecursion P ys → AllByRecursion P (xs ++ ys)
+all_joined P [] ys h k = k
+all_joined P (x ∷ xs) ys h k = (h.0, all_joined P xs ys h.1 k)
 
-  both_behind : AllByRecursion (λ r. r.dead ≡ false → among w m r ≡ true → Behind (facts_of w) b r) (open_references w) × AllByRecursion (λ r. r.dead ≡ false → among w m r ≡ true → Behind (facts_of w) b r) (map cwd_reference (entries w.cwds))
-  both_behind = parted w m (λ r. r.dead ≡ false → among w m r ≡ true → Behind (facts_of w) b r) (open_references w) (map cwd_reference (entries w.cwds)) behind
+parted : (P : Reference → Type 0) (xs ys : List Reference) → AllByRecursion P (xs ++ ys) → AllByRecursion P xs × AllByRecursion P ys
+parted P [] ys h = (tt, h)
+parted P (x ∷ xs) ys h = let k = parted P xs ys h.1 in ((h.0, k.0), k.1)
 
-  -- no reference that stands there comes before it
-  ref_behind : (r : Ref) (p : Seen) → IsInside w m r p → Behind (facts_of w) b (record { at = r; place = p; dead = false })
-  ref_behind (Fd c d) p h = by (get w.opens (c, d)) refl h.live.0 h.here
+-- the references at some places
+module _ (w : World) (among : Seen → Bool) where
+  -- those that aren't dead
+  abbrev kept : List Reference → List Reference
+  kept rs = filter (λ r. not r.dead && among r.place) rs
+
+  abbrev Kept : (Reference → Type 0) → Reference → Type 0
+  Kept Q r = r.dead ≡ false → among r.place ≡ true → Q r
+
+  all_kept : (Q : Reference → Type 0) (rs : List Reference) → AllByRecursion (Kept Q) rs → AllByRecursion Q (kept rs)
+  all_kept Q [] h = tt
+  all_kept Q (r ∷ rs) h = by (all_kept Q rs h.1) (not r.dead && among r.place) refl
     where
-      by : (o : Option Open) → get w.opens (c, d) ≡ o → IfSome o (λ o. o.dead ≡ false) → option_map (λ (o : Open). o.place) o ≡ Some p → Behind (facts_of w) b (record { at = Fd c d; place = p; dead = false })
-      by (Some o) at alive here =
-          let same : o.place ≡ p = ap (or_place p) here in
-          subst (λ q. Behind (facts_of w) b (record { at = Fd c d; place = q; dead = false })) same
-          (at_given pair_cmp pair_exact open_reference (λ r. r.dead ≡ false → among w m r ≡ true → Behind (facts_of w) b r) (entries w.opens) both_behind.0 (c, d) o (sym (get-entries w.opens (c, d)) ∙ at) alive
-          (ap (λ q. is_of w.mounts m (mount_of q)) same ∙ h.inside))
-      by None at alive here = absurd (let clash : None ≡ Some p = here in cc)
-  ref_behind (Here c) p h = by (get w.cwds c) refl h.live.0 h.here
+      by : AllByRecursion Q (kept rs) → (b : Bool) → (not r.dead && among r.place) ≡ b → AllByRecursion Q (cond b (r ∷ kept rs) (kept rs))
+      by rest true e = (h.0 (alive r.dead (first_of (not r.dead) (among r.place) e)) (second_of (not r.dead) (among r.place) e), rest)
+      by rest false e = rest
+
+  -- what holds of all that are kept holds of each that isn't dead and stands there
+  unkept : (Q : Reference → Type 0) (rs : List Reference) → AllByRecursion Q (kept rs) → AllByRecursion (Kept Q) rs
+  unkept Q [] h = tt
+  unkept Q (r ∷ rs) h = by (λ k. unkept Q rs k) (not r.dead && among r.place) refl h
     where
-      by : (o : Option Cwd) → get w.cwds c ≡ o → IfSome o (λ d. d.dead ≡ false) → option_map (λ (d : Cwd). d.place) o ≡ Some p → Behind (facts_of w) b (record { at = Here c; place = p; dead = false })
-      by (Some d) at alive here =
-          let same : d.place ≡ p = ap (or_place p) here in
-          subst (λ q. Behind (facts_of w) b (record { at = Here c; place = q; dead = false })) same
-          (at_given nat_cmp exact_unsigned cwd_reference (λ r. r.dead ≡ false → among w m r ≡ true → Behind (facts_of w) b r) (entries w.cwds) both_behind.1 c d (sym (get-entries w.cwds c) ∙ at) alive
-          (ap (λ q. is_of w.mounts m (mount_of q)) same ∙ h.inside))
-      by None at alive here = absurd (let clash : None ≡ Some p = here in cc)
+      by : (AllByRecursion Q (kept rs) → AllByRecursion (Kept Q) rs) → (b : Bool) → (not r.dead && among r.place) ≡ b → AllByRecursion Q (cond b (r ∷ kept rs) (kept rs)) → AllByRecursion (Kept Q) (r ∷ rs)
+      by more true e k = (λ alive inside. k.0, more k.1)
+      by more false e k = (λ alive inside. no_way (sym e ∙ both_of (not r.dead) (among r.place) (ap not alive) inside), more k)
 
-  stands_inside : IsInside w m b.at b.place
-  stands_inside =
-      subst (λ o. IfSome o (λ r. IsInside w m r.at r.place)) is
-      (kept_in (facts_of w) (λ r. IsInside w m r.at r.place) (kept w m (references w)) None tt (kept_inside w m (references w) (refs_inside w m)))
+  -- ---- open files and current directories
 
-  is_deepest : IsDeepest w m b.at
-  is_deepest = record {
-    place = b.place;
-    stands = stands_inside;
-    deepest = λ r p h. let none = ref_behind r p h in let deeper : depth (facts_of w) b.place < depth (facts_of w) p → ⊥ = λ less. none (inl less) in omega (arith, deeper);
-    first = λ r p h same. not_so (comes_before r b.at) (λ e. ref_behind r p h (inr (same, to_comes r b.at e)));
-  }
+  abbrev Given : (Ref → Seen → Type 0) → Type 0
+  Given P = (r : Ref) (p : Seen) → IsLive w r → place_of w r ≡ Some p → among p ≡ true → P r p
 
-at_first : (w : World) (m : ℕ) (at : Ref) (o : Option Reference) → first (facts_of w) (kept w m (references w)) ≡ o → option_map (λ r. r.at) o ≡ Some at → IsDeepest w m at
-at_first w m at (Some b) is e = subst (IsDeepest w m) (ap (or_ref at) e) (is_deepest w m b is)
-at_first w m at None is e = absurd (let clash : None ≡ Some at = e in cc)
+  module _ (P : Ref → Seen → Type 0) (given : Given P) where
+    open_kept : (e : (ℕ × ℕ) × Open) → get w.opens e.0 ≡ Some e.1 → Kept (λ r. P r.at r.place) (open_reference e)
+    open_kept e is alive inside =
+        given (Fd e.0.0 e.0.1) e.1.place (subst (λ x. IfSome x (λ o. o.dead ≡ false)) (sym is) alive, ap is_some is) (ap (option_map (λ (o : Open). o.place)) is) inside
 
--- the first live reference in a mount, or in one that stands on it
-pub first_deepest : (w : World) (m : ℕ) (at : Ref) → first_in w m ≡ Some at → IsDeepest w m at
-first_deepest w m at e = at_first w m at (first (facts_of w) (kept w m (references w))) refl e
+    cwd_kept : (e : ℕ × Cwd) → get w.cwds e.0 ≡ Some e.1 → Kept (λ r. P r.at r.place) (cwd_reference e)
+    cwd_kept e is alive inside =
+        given (Here e.0) e.1.place (subst (λ x. IfSome x (λ d. d.dead ≡ false)) (sym is) alive, ap is_some is) (ap (option_map (λ (d : Cwd). d.place)) is) inside
+
+    opens_kept : (es : List ((ℕ × ℕ) × Open)) → AllByRecursion (λ e. get w.opens e.0 ≡ Some e.1) es → AllByRecursion (Kept (λ r. P r.at r.place)) (map open_reference es)
+    opens_kept [] h = tt
+    opens_kept (e ∷ es) h = (open_kept e h.0, opens_kept es h.1)
+
+    cwds_kept : (es : List (ℕ × Cwd)) → AllByRecursion (λ e. get w.cwds e.0 ≡ Some e.1) es → AllByRecursion (Kept (λ r. P r.at r.place)) (map cwd_reference es)
+    cwds_kept [] h = tt
+    cwds_kept (e ∷ es) h = (cwd_kept e h.0, cwds_kept es h.1)
+
+    all_opens : AllByRecursion (Kept (λ r. P r.at r.place)) (open_references w)
+    all_opens = opens_kept (entries w.opens) (all_given pair_cmp pair_total w.opens)
+
+    all_references : AllByRecursion (Kept (λ r. P r.at r.place)) (references w)
+    all_references =
+        all_joined (Kept (λ r. P r.at r.place)) (open_references w) (map cwd_reference (entries w.cwds)) all_opens (cwds_kept (entries w.cwds) (all_given nat_cmp nat_cmp_total w.cwds))
+
+  -- what holds of all of them holds of each
+  module _ (Q : Reference → Type 0) where
+    of_open : AllByRecursion (Kept Q) (open_references w) → (c d : ℕ) (p : Seen) → IsLive w (Fd c d) → place_of w (Fd c d) ≡ Some p → among p ≡ true → Q (live_at (Fd c d) p)
+    of_open all c d p live here inside = by (get w.opens (c, d)) refl live.0 here
+      where
+        by : (o : Option Open) → get w.opens (c, d) ≡ o → IfSome o (λ o. o.dead ≡ false) → option_map (λ (o : Open). o.place) o ≡ Some p → Q (live_at (Fd c d) p)
+        by (Some o) at alive here =
+            let same : o.place ≡ p = ap (or_place p) here in
+            let kept : Q (open_reference ((c, d), o)) = at_given pair_cmp pair_exact open_reference (Kept Q) (entries w.opens) all (c, d) o (sym (get-entries w.opens (c, d)) ∙ at) alive (ap among same ∙ inside) in
+            subst (λ q. Q (live_at (Fd c d) q)) same (subst (λ b. Q (record { at = Fd c d; place = o.place; dead = b })) alive kept)
+        by None at alive here = absurd (let clash : None ≡ Some p = here in cc)
+
+    of_cwd : AllByRecursion (Kept Q) (map cwd_reference (entries w.cwds)) → (c : ℕ) (p : Seen) → IsLive w (Here c) → place_of w (Here c) ≡ Some p → among p ≡ true → Q (live_at (Here c) p)
+    of_cwd all c p live here inside = by (get w.cwds c) refl live.0 here
+      where
+        by : (o : Option Cwd) → get w.cwds c ≡ o → IfSome o (λ d. d.dead ≡ false) → option_map (λ (d : Cwd). d.place) o ≡ Some p → Q (live_at (Here c) p)
+        by (Some d) at alive here =
+            let same : d.place ≡ p = ap (or_place p) here in
+            let kept : Q (cwd_reference (c, d)) = at_given nat_cmp exact_unsigned cwd_reference (Kept Q) (entries w.cwds) all c d (sym (get-entries w.cwds c) ∙ at) alive (ap among same ∙ inside) in
+            subst (λ q. Q (live_at (Here c) q)) same (subst (λ b. Q (record { at = Here c; place = d.place; dead = b })) alive kept)
+        by None at alive here = absurd (let clash : None ≡ Some p = here in cc)
+
+    of_reference : AllByRecursion (Kept Q) (references w) → (r : Ref) (p : Seen) → IsLive w r → place_of w r ≡ Some p → among p ≡ true → Q (live_at r p)
+    of_reference all (Fd c d) p live here inside = of_open (parted (Kept Q) (open_references w) (map cwd_reference (entries w.cwds)) all).0 c d p live here inside
+    of_reference all (Here c) p live here inside = of_cwd (parted (Kept Q) (open_references w) (map cwd_reference (entries w.cwds)) all).1 c p live here inside
+
+  -- ---- the first of those of a list
+
+  module _ (P : Ref → Seen → Type 0) (rs : List Reference) (from : AllByRecursion (Kept (λ r. P r.at r.place)) rs)
+      (to : (b : Reference) → AllByRecursion (Kept (Behind (facts_of w) b)) rs → (r : Ref) (p : Seen) → P r p → Behind (facts_of w) b (live_at r p)) where
+    is_first : (b : Reference) → first (facts_of w) (kept rs) ≡ Some b → IsDeepestOf w P b.at
+    is_first b is = record {
+      place = b.place;
+      stands = subst (λ o. IfSome o (λ r. P r.at r.place)) is (kept_in (facts_of w) (λ r. P r.at r.place) (kept rs) None tt (all_kept (λ r. P r.at r.place) rs from));
+      deepest = λ r p h. let none = behind r p h in let deeper : depth (facts_of w) b.place < depth (facts_of w) p → ⊥ = λ less. none (inl less) in omega (arith, deeper);
+      first = λ r p h same. not_so (comes_before r b.at) (λ e. behind r p h (inr (same, to_comes r b.at e)));
+    }
+      where
+        behind : (r : Ref) (p : Seen) → P r p → Behind (facts_of w) b (live_at r p)
+        behind = to b (unkept (Behind (facts_of w) b) rs (all_behind (facts_of w) (kept rs) None b is).1)
+
+    at_first : (at : Ref) (o : Option Reference) → first (facts_of w) (kept rs) ≡ o → option_map (λ r. r.at) o ≡ Some at → IsDeepestOf w P at
+    at_first at (Some b) is e = subst (IsDeepestOf w P) (ap (or_ref at) e) (is_first b is)
+    at_first at None is e = absurd (let clash : None ≡ Some at = e in cc)
+
+-- ---- in a forced unmount
+
+module _ (w : World) (m : ℕ) where
+  abbrev inside : Seen → Bool
+  inside p = is_of w.mounts m (mount_of p)
+
+  -- the first live reference in a mount, or in one that stands on it
+  pub first_deepest : (at : Ref) → first_in w m ≡ Some at → IsDeepest w m at
+  first_deepest at e =
+      at_first w inside (IsInside w m) (references w) (all_references w inside (IsInside w m) (λ r p live here is. record { live = live; here = here; inside = is }))
+      (λ b all r p x. of_reference w inside (Behind (facts_of w) b) all r p x.live x.here x.inside) at (first (facts_of w) (kept w inside (references w))) refl e
 
 next_deepest : (w : World) (c m : ℕ) (at : Ref) (o : Option Ref) → first_in w m ≡ o → doom_next w c m o ≡ Wants (Doom at) → IsDeepest w m at
 next_deepest w c m at (Some r) is e = subst (IsDeepest w m) (doomed_at r at e) (first_deepest w m r is)
@@ -340,3 +354,52 @@ next_deepest w c m at None is e = absurd (let clash : Go (left w c m, reply.Done
 -- what a forced unmount dooms next
 pub doomed_deepest : (w : World) (c m : ℕ) (text : List ℕ) (at : Ref) → get w.leaving c ≡ Some m → IsLeaver (Some (call.UmountForce text)) → row w c (call.UmountForce text) ≡ Wants (Doom at) → IsDeepest w m at
 doomed_deepest w c m text at leaves lawful e = next_deepest w c m at (first_in w m) refl (sym (leaver_row w c (call.UmountForce text) m leaves lawful) ∙ e)
+
+-- ---- in a revoke
+
+same_nodes : (a b : NodeId) → same_node a b ≡ true → a ≡ b
+same_nodes a b e = λ t. record {
+  store = eqb-true a.store b.store (first_of (a.store == b.store) (a.ino == b.ino) e) t;
+  ino = eqb-true a.ino b.ino (second_of (a.store == b.store) (a.ino == b.ino) e) t;
+}
+
+node_itself : (a : NodeId) → same_node a a ≡ true
+node_itself a = both_of (a.store == a.store) (a.ino == a.ino) (eq-eqb a.store a.store refl) (eq-eqb a.ino a.ino refl)
+
+module _ (w : World) (node : NodeId) where
+  abbrev rests : Seen → Bool
+  rests p = same_node (base (facts_of w) p) node
+
+  given_open : (r : Ref) (p : Seen) → IsDescriptor r → IsLive w r → place_of w r ≡ Some p → rests p ≡ true → IsOpenOn w node r p
+  given_open r p file live here is = record { file = file; live = live; here = here; rests = same_nodes (base (facts_of w) p) node is }
+
+  -- it does where it is an open file
+  abbrev IfOpen : Ref → Seen → Type 0
+  IfOpen r p = IsDescriptor r → IsOpenOn w node r p
+
+  descriptors : (es : List ((ℕ × ℕ) × Open)) → AllByRecursion (Kept w rests (λ r. IfOpen r.at r.place)) (map open_reference es) → AllByRecursion (Kept w rests (λ r. IsOpenOn w node r.at r.place)) (map open_reference es)
+  descriptors [] h = tt
+  descriptors (e ∷ es) h = (λ alive is. h.0 alive is tt, descriptors es h.1)
+
+  -- the first live open file that rests on the node
+  pub first_open_deepest : (at : Ref) → first_open_on w node ≡ Some at → IsDeepestOn w node at
+  first_open_deepest at e =
+      at_first w rests (IsOpenOn w node) (open_references w) (descriptors (entries w.opens) (all_opens w rests IfOpen (λ r p live here is file. given_open r p file live here is)))
+      behind at (first (facts_of w) (kept w rests (open_references w))) refl e
+    where
+      behind : (b : Reference) → AllByRecursion (Kept w rests (Behind (facts_of w) b)) (open_references w) → (r : Ref) (p : Seen) → IsOpenOn w node r p → Behind (facts_of w) b (live_at r p)
+      behind b all (Fd c d) p x =
+          of_open w rests (Behind (facts_of w) b) all c d p x.live x.here (ap (λ a. same_node a node) x.rests ∙ node_itself node)
+      behind b all (Here c) p x = absurd x.file
+
+-- what a revoke dooms next
+pub revoked_deepest : (w : World) (c : ℕ) (text : List ℕ) (at : Ref) (p : Seen) → row w c (call.Revoke text) ≡ Wants (Doom at) → place_of w at ≡ Some p
+    → IsRevoking w c text (base (facts_of w) p) × IsDeepestOn w (base (facts_of w) p) at
+revoked_deepest w c text at p e there =
+    let node = base (facts_of w) p in
+    let is : IsRevoking w c text node = revoking_first w c text at p e there in
+    (is, next_open w node at (first_open_on w node) refl (sym (revoking_row w c text node is) ∙ e))
+  where
+    next_open : (w : World) (node : NodeId) (at : Ref) (o : Option Ref) → first_open_on w node ≡ o → revoke_next w o ≡ Wants (Doom at) → IsDeepestOn w node at
+    next_open w node at (Some r) is e = subst (IsDeepestOn w node) (doomed_at r at e) (first_open_deepest w node r is)
+    next_open w node at None is e = absurd (let clash : Go (w, reply.Done) ≡ Wants (Doom at) = e in cc)

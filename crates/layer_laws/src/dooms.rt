@@ -1,14 +1,17 @@
 ghost use Rattle.std.specs.Prelude.{◌≡◌, ℕ, List, Some};
 ghost use Rattle.std.specs.FinMap.{get};
+ghost use Rattle.vfs_tree.specs.Layers.{base};
+ghost use Rattle.vfs_tree.specs.Place.{Seen};
+ghost use Rattle.vfs_tree.specs.Views.{facts_of};
 ghost use Rattle.vfs_tree.specs.declared.walk.Step.TheVariants.{Wants};
 ghost use Rattle.vfs_tree.specs.declared.world.World.{World};
-ghost use Rattle.call_model.specs.Refs.{first_in};
+ghost use Rattle.call_model.specs.Refs.{first_in, place_of};
 ghost use Rattle.call_model.specs.Rows.{row};
 ghost use Rattle.call_model.specs.declared.call.Call.TheVariants as call;
 ghost use Rattle.call_model.specs.declared.entry.Inner.TheVariants.{Doom};
 ghost use Rattle.call_model.specs.declared.entry.Ref.{Ref};
 ghost use Rattle.call_laws.specs.Leaving.{IsLeaver};
-ghost use Rattle.layer_laws.specs.Deepest.{IsDeepest};
+ghost use Rattle.layer_laws.specs.Deepest.{IsDeepest, IsDeepestOn};
 
 /// The deepest reference is doomed first: a law of the model, with no code. So what a reference stands on outlives it.
 pub fn the_deepest_reference_is_doomed_first()
@@ -19,4 +22,8 @@ pub fn the_deepest_reference_is_doomed_first()
     ensures doomed { (w : World) (c m : ℕ) (text : List ℕ) (at : Ref)
         → get w.leaving c ≡ Some m → IsLeaver (Some (call.UmountForce text)) → row w c (call.UmountForce text) ≡ Wants (Doom at)
         → IsDeepest w m at }
+    // A revoke dooms an open file next that is the deepest, and then the first, of the live ones that rest on its node.
+    ensures revoked { (w : World) (c : ℕ) (text : List ℕ) (at : Ref) (p : Seen)
+        → row w c (call.Revoke text) ≡ Wants (Doom at) → place_of w at ≡ Some p
+        → IsDeepestOn w (base (facts_of w) p) at }
 {}
