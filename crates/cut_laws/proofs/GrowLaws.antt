@@ -31,6 +31,7 @@ use Rattle.vfs_tree.specs.declared.node.NameEntry.TheVariants.{Ino, White}
 use Rattle.vfs_tree.specs.declared.node.Node.{Node}
 use Rattle.vfs_tree.specs.declared.node.Node.TheVariants.{Dir, File, Link}
 use Rattle.vfs_tree.specs.declared.node.Store.{Store}
+use Rattle.vfs_tree.specs.declared.open.Cwd.{Cwd}
 use Rattle.vfs_tree.specs.declared.open.Open.{Open}
 use Rattle.vfs_tree.specs.declared.walk.Child.{Child}
 use Rattle.vfs_tree.specs.declared.walk.Child.TheVariants as child
@@ -39,7 +40,7 @@ use Rattle.vfs_tree.specs.declared.walk.Found.TheVariants as found
 use Rattle.vfs_tree.specs.declared.world.World.{World}
 use Rattle.call_model.specs.Checks.{Outcome, is_full, upper_store, copied, place_at, target_at, there, dir_at, free_target, node_of, has_white, edit_at, make_at, drop_at}
 use Rattle.call_model.specs.DataRows as rows
-use Rattle.call_model.specs.Effects.{made_above, copy_of, turned, turned_open, copied_child, detached, doomed_open, doomed_place, effect}
+use Rattle.call_model.specs.Effects.{made_above, copy_of, turned, turned_open, copied_child, detached, doomed_open, doomed_cwd, doomed_place, effect}
 use Rattle.call_model.specs.MountRows as mounts
 use Rattle.call_model.specs.NameRows as names
 use Rattle.call_model.specs.Refs.{place_of}
@@ -57,7 +58,7 @@ use Rattle.call_laws.proofs.WalkLaws.{FoundWell}
 use Rattle.call_laws.proofs.Whole.{IsWhole}
 use Rattle.model_laws.proofs.Leaving.{past}
 use Rattle.fuel_laws.proofs.ApartLaws.{same-store}
-use Rattle.cut_laws.proofs.StandLaws.{HasOpen, Grows}
+use Rattle.cut_laws.proofs.StandLaws.{HasCwd, IsHeld, Grows}
 
 -- ---- stores
 
@@ -142,14 +143,21 @@ module _ (w : World) (h : IsWhole w) where
   f = facts_of w
 
   abbrev Lies : World → Open → Type 0
-  Lies v o = o.dead ≡ false → HasOpen w (mount_of o.place) ⊎ (is_cut (facts_of v) (mount_of o.place) ≡ false)
+  Lies v o = o.dead ≡ false → IsHeld w v (mount_of o.place)
+
+  abbrev Sits : World → Cwd → Type 0
+  Sits v d = d.dead ≡ false → HasCwd w (mount_of d.place) ⊎ IsHeld w v (mount_of d.place)
 
   own : (v : World) (k : ℕ × ℕ) (o : Option Open) → get w.opens k ≡ o → IfSome o (Lies v)
   own v k (Some o) at = λ alive. inl (record { key = k; file = o; at = at; alive = alive; mount = refl })
   own v k None at = tt
 
+  own_cwd : (v : World) (c : ℕ) (o : Option Cwd) → get w.cwds c ≡ o → IfSome o (Sits v)
+  own_cwd v c (Some d) at = λ alive. inl (record { caller = c; dir = d; at = at; alive = alive; mount = refl })
+  own_cwd v c None at = tt
+
   pub grows-itself : Grows w w
-  grows-itself = record { stays = record { kinds = λ m k e. e; nodes = λ s i k e. e }; adds = λ m k less e. e; opens = λ k. own w k (get w.opens k) refl }
+  grows-itself = record { stays = record { kinds = λ m k e. e; nodes = λ s i k e. e }; adds = λ m k less e. e; opens = λ k. own w k (get w.opens k) refl; cwds = λ c. own_cwd w c (get w.cwds c) refl }
 
   abbrev node_kind : ℕ → Option Store → Option Kind
   node_kind i o = option_map kind_of_node (option_and_then (λ (t : Store). get t.nodes i) o)
@@ -163,6 +171,7 @@ module _ (w : World) (h : IsWhole w) where
     };
     adds = x.adds;
     opens = x.opens;
+    cwds = x.cwds;
   }
   grows-store v x edit s None at keeps = x
 
@@ -189,7 +198,10 @@ module _ (w : World) (h : IsWhole w) where
   -- ---- what is open
 
   grows-open : (v : World) → Grows w v → (k : ℕ × ℕ) (o : Open) → Lies v o → Grows w (record v { opens = insert v.opens k o })
-  grows-open v x k o lies = record { stays = x.stays; adds = x.adds; opens = λ j. by_key pair_total pair_exact v.opens k o j (λ y. IfSome y (Lies v)) (λ _. lies) (x.opens j) }
+  grows-open v x k o lies = record { stays = x.stays; adds = x.adds; opens = λ j. by_key pair_total pair_exact v.opens k o j (λ y. IfSome y (Lies v)) (λ _. lies) (x.opens j); cwds = x.cwds }
+
+  grows-cwd : (v : World) → Grows w v → (c : ℕ) (d : Cwd) → Sits v d → Grows w (record v { cwds = insert v.cwds c d })
+  grows-cwd v x c d sits = record { stays = x.stays; adds = x.adds; opens = x.opens; cwds = λ j. by_key nat_cmp_total exact_unsigned v.cwds c d j (λ y. IfSome y (Sits v)) (λ _. sits) (x.cwds j) }
 
   gone : (P : Open → Type 0) (b : Bool) (o : Option Open) → IfSome o P → IfSome (cond b None o) P
   gone P true o x = tt
@@ -202,8 +214,9 @@ module _ (w : World) (h : IsWhole w) where
       stays = x.stays;
       adds = x.adds;
       opens = λ j. subst (λ y. IfSome y (Lies v)) (sym (get-remove pair_total v.opens k j)) (gone (Lies v) (eq_by_cmp pair_cmp j k) (get v.opens j) (x.opens j));
+      cwds = x.cwds;
     };
-    entered = λ v c k o x is alive dir. record { stays = x.stays; adds = x.adds; opens = x.opens };
+    entered = λ v c k o x is alive dir. grows-cwd v x c (record { place = o.place; dead = false }) (λ _. inr (subst (λ y. IfSome y (Lies v)) is (x.opens k) alive));
     written = λ v s i g x. grows-store v x (λ t. with_node_at (with_bytes g) t i) s (get v.stores s) refl (each_store (λ t. with_node_at (with_bytes g) t i) (λ t. kept_at (with_bytes g) (same_bytes g) t i) (get v.stores s));
   }
 
@@ -257,8 +270,20 @@ module _ (w : World) (h : IsWhole w) where
       past (target_at w errno.EINVAL b) (λ new.
       unless (not (mount_of old.dir == mount_of new.dir)) _ (λ _. fit-rename_case (names.is_there source new.child) source old.dir old.name new))))
 
-  pub fit-chdir : (c : ℕ) (a : Found) → Fit (names.chdir w c a)
-  fit-chdir c a = past (dir_at w a) (λ d. found_so (record { stays = grows-itself.stays; adds = grows-itself.adds; opens = grows-itself.opens }))
+  -- the mount of what is found isn't cut
+  uncut_at : (a : Found) → FoundWell f a → Keeps (λ p. is_cut f (mount_of p) ≡ false) AnyNeed (place_at w a)
+  uncut_at (found.At p) well = found_so (head_uncut f p well.good.uncut)
+  uncut_at (found.In d n x) well = refused
+  uncut_at (found.Dot d) well = refused
+  uncut_at (found.Mount m) well = refused
+  uncut_at (found.Refused e) well = refused
+  uncut_at (found.Need y) well = unless (is_full w (upper_store w y.mount)) _ (λ _. needed tt)
+
+  uncut_dir : (a : Found) → FoundWell f a → Keeps (λ p. is_cut f (mount_of p) ≡ false) AnyNeed (dir_at w a)
+  uncut_dir a well = then (place_at w a) (uncut_at a well) (λ p cut. unless (not (is_dir (facts_of w) p)) _ (λ _. found_so cut))
+
+  pub fit-chdir : (c : ℕ) (a : Found) → FoundWell f a → Fit (names.chdir w c a)
+  fit-chdir c a well = then (dir_at w a) (uncut_dir a well) (λ d cut. found_so (grows-cwd w grows-itself c (record { place = d; dead = false }) (λ _. inr (inr cut))))
 
   -- ---- open(2)
 
@@ -311,6 +336,7 @@ module _ (w : World) (h : IsWhole w) where
         };
         adds = λ m x less. by_key nat_cmp_total exact_unsigned w.mounts w.next_mount t m (λ o. option_map (λ (t : Mount). t.kind) o ≡ Some x → kind_in f m ≡ Some x) (λ same _. absurd (omega (arith, less, same))) (λ is. is);
         opens = λ j. own (mounts.with_mount (record w { stores = s }) k on) j (get w.opens j) refl;
+        cwds = λ c. own_cwd (mounts.with_mount (record w { stores = s }) k on) c (get w.cwds c) refl;
       }
 
   store_there : (i : ℕ) (k : Kind) (o : Option Store) → node_kind i o ≡ Some k → IsSome o
@@ -359,7 +385,7 @@ module _ (w : World) (h : IsWhole w) where
       by false e = refl
 
   turned_lies : (v : World) (m u i : ℕ) (n : List ℕ) (q : Seen) (o : Option Open) → IfSome o (Lies v) → IfSome (option_map (turned_open (UnionLow m u n q) (UnionUp m i)) o) (Lies v)
-  turned_lies v m u i n q (Some o) x = λ alive. subst (λ a. HasOpen w a ⊎ (is_cut (facts_of v) a ≡ false)) (sym (turned_mount m u i n q o.place)) (x alive)
+  turned_lies v m u i n q (Some o) x = λ alive. subst (IsHeld w v) (sym (turned_mount m u i n q o.place)) (x alive)
   turned_lies v m u i n q None x = tt
 
   grows-copied : (m u : ℕ) (n : List ℕ) (c : Child) → Grows w (copied_child w m u n c)
@@ -371,6 +397,7 @@ module _ (w : World) (h : IsWhole w) where
         stays = y.0.stays;
         adds = y.0.adds;
         opens = λ k. subst (λ o. IfSome o (Lies v)) (sym (get_each pair_total (turned_open (UnionLow m u n q) (UnionUp m i)) v.opens k)) (turned_lies v m u i n q (get v.opens k) (y.0.opens k));
+        cwds = y.0.cwds;
       }
   grows-copied m u n child.Absent = (grows-above m u n (File [])).0
   grows-copied m u n (child.Need x) = (grows-above m u n (File [])).0
@@ -384,6 +411,7 @@ module _ (w : World) (h : IsWhole w) where
     stays = record { kinds = λ n k e. same n ∙ e; nodes = λ s i k e. e };
     adds = λ n k less e. sym (same n) ∙ e;
     opens = λ k. own (detached w c m) k (get w.opens k) refl;
+    cwds = λ d. own_cwd (detached w c m) d (get w.cwds d) refl;
   }
     where
       same : (n : ℕ) → kind_in (facts_of (detached w c m)) n ≡ kind_in f n
@@ -393,11 +421,16 @@ module _ (w : World) (h : IsWhole w) where
   doomed_lies p (Some o) x = λ alive. x (or_none o.dead (same_place p o.place) alive).0
   doomed_lies p None x = tt
 
+  doomed_sits : (p : Seen) (o : Option Cwd) → IfSome o (Sits w) → IfSome (option_map (doomed_cwd p) o) (Sits w)
+  doomed_sits p (Some d) x = λ alive. x (or_none d.dead (same_place p d.place) alive).0
+  doomed_sits p None x = tt
+
   grows-doomed : (o : Option Seen) → Grows w (doomed_place w o)
   grows-doomed (Some p) = record {
     stays = grows-itself.stays;
     adds = grows-itself.adds;
     opens = λ k. subst (λ o. IfSome o (Lies w)) (sym (get_each pair_total (doomed_open p) w.opens k)) (doomed_lies p (get w.opens k) (grows-itself.opens k));
+    cwds = λ c. subst (λ o. IfSome o (Sits w)) (sym (get_each nat_cmp_total (doomed_cwd p) w.cwds c)) (doomed_sits p (get w.cwds c) (grows-itself.cwds c));
   }
   grows-doomed None = grows-itself
 

@@ -146,7 +146,7 @@ module _ (w : World) (mounts : Mounts) (leaving : Leaving) (same : (m : ℕ) →
       ∙ same_child_union m u n (upper_entry f (kind_in f m) u n) over under (same_beside (child_within k f) (child_within k g) (same_found k) m u n)
   same_found (suc k) (UnionLow m u a p) n = refl
 
-  same_low : (m u : ℕ) → low g m u ≡ low f m u
+  pub same_low : (m u : ℕ) → low g m u ≡ low f m u
   same_low m u = ap (low_by g (child_within m g) u) (same m) ∙ same_part (child_within m f) (child_within m g) (same_found m) u (kind_in f m)
 
   -- ---- what is listed

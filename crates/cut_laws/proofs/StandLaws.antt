@@ -15,6 +15,7 @@ use Rattle.vfs_tree.specs.Views.{facts_of}
 use Rattle.vfs_tree.specs.declared.mount.Mount.{Mount}
 use Rattle.vfs_tree.specs.declared.mount.MountKind.{MountKind}
 use Rattle.vfs_tree.specs.declared.mount.MountKind.TheVariants as kind
+use Rattle.vfs_tree.specs.declared.open.Cwd.{Cwd}
 use Rattle.vfs_tree.specs.declared.open.Open.{Open}
 use Rattle.vfs_tree.specs.declared.walk.NodeId.{NodeId}
 use Rattle.vfs_tree.specs.declared.world.World.{World}
@@ -28,7 +29,8 @@ use Rattle.call_laws.proofs.UmountLaws.{NamesNot}
 use Rattle.call_laws.proofs.WeightLaws.{equal}
 use Rattle.call_laws.proofs.Whole.{IsWhole}
 use Rattle.call_laws.proofs.WholeLaws.{over_stays}
-use Rattle.cut_laws.specs.Standing.{IsLayerDir, IsStanding, AreStanding}
+use Rattle.model_laws.specs.Unmounted.{NoneIn}
+use Rattle.cut_laws.specs.Standing.{IsLayerDir, IsStanding, AreStanding, AllStand}
 use Rattle.cut_laws.proofs.FreedLaws.{under, and_layers}
 
 pub split : {C : Type 0} (a b : Bool) → (a ≡ true → C) → (b ≡ true → C) → (a || b) ≡ true → C
@@ -81,10 +83,14 @@ module _ (w : World) (h : IsWhole w) where
   head_there (UnionUp m i) x = union_there (kind_in f m) x
   head_there (UnionLow m u n p) x = union_there (kind_in f m) (first_of (is_union (kind_in f m)) (names_mounts f p) x)
 
+  place_number : (p : Seen) → IsSoundPlace f p → mount_of p < w.next_mount
+  place_number p sound = h.lasts.counted.mounts (mount_of p) (mount_there (get w.mounts (mount_of p)) (head_there p sound.mounts))
+
   pub open_number : (k : ℕ × ℕ) (o : Open) → get w.opens k ≡ Some o → o.dead ≡ false → mount_of o.place < w.next_mount
-  open_number k o at alive =
-      let sound : IsSoundPlace f o.place = subst (λ x. IfSome x (λ o. o.dead ≡ false → IsSoundPlace f o.place)) at (h.sound.opens k) alive in
-      h.lasts.counted.mounts (mount_of o.place) (mount_there (get w.mounts (mount_of o.place)) (head_there o.place sound.mounts))
+  open_number k o at alive = place_number o.place (subst (λ x. IfSome x (λ o. o.dead ≡ false → IsSoundPlace f o.place)) at (h.sound.opens k) alive)
+
+  cwd_number : (c : ℕ) (d : Cwd) → get w.cwds c ≡ Some d → d.dead ≡ false → mount_of d.place < w.next_mount
+  cwd_number c d at alive = place_number d.place (subst (λ x. IfSome x (λ d. d.dead ≡ false → IsSoundPlace f d.place)) at (h.sound.cwds c) alive)
 
 -- ---- worlds with other mounts
 
@@ -162,24 +168,56 @@ pub record HasOpen (w : World) (a : ℕ) : Type 0 where
   pub alive : file.dead ≡ false
   pub mount : mount_of file.place ≡ a
 
--- what is there stays; what is open lies in a mount in which something was open, or in one that isn't cut
+-- a current directory
+pub record HasCwd (w : World) (a : ℕ) : Type 0 where
+  pub caller : ℕ
+  pub dir : Cwd
+  pub at : get w.cwds caller ≡ Some dir
+  pub alive : dir.dead ≡ false
+  pub mount : mount_of dir.place ≡ a
+
+-- the mount isn't cut, or something was open in it
+abbrev pub IsHeld : World → World → ℕ → Type 0
+IsHeld w v a = HasOpen w a ⊎ (is_cut (facts_of v) a ≡ false)
+
+-- what is there stays; what is open lies in a mount in which something was open, or in one that isn't cut; what is a
+-- current directory lies in such a mount, or in one in which some current directory was
 pub record Grows (w v : World) : Type 0 where
   pub stays : Stays (facts_of w) (facts_of v)
   pub adds : Adds w v
-  pub opens : (k : ℕ × ℕ) → IfSome (get v.opens k) (λ o. o.dead ≡ false → HasOpen w (mount_of o.place) ⊎ (is_cut (facts_of v) (mount_of o.place) ≡ false))
+  pub opens : (k : ℕ × ℕ) → IfSome (get v.opens k) (λ o. o.dead ≡ false → IsHeld w v (mount_of o.place))
+  pub cwds : (c : ℕ) → IfSome (get v.cwds c) (λ d. d.dead ≡ false → HasCwd w (mount_of d.place) ⊎ IsHeld w v (mount_of d.place))
 
-pub grown_stands : (w v : World) → IsWhole w → IsWhole v → Grows w v → AreStanding w → AreStanding v
-grown_stands w v hw hv grows stands k = by (get v.opens k) (grows.opens k)
-  where
-    from : (a : ℕ) → HasOpen w a → IsStanding v a
-    from a x =
-        stands_on_still w v hw hv grows.adds a (subst (λ y. y < w.next_mount) x.mount (open_number w hw x.key x.file x.at x.alive))
-        (λ p _ l. (stays_dir (facts_of w) (facts_of v) grows.stays p l.0, over_stays (facts_of w) (facts_of v) grows.stays.kinds p l.1))
-        (subst (IsStanding w) x.mount (subst (λ o. IfSome o (λ o. o.dead ≡ false → IsStanding w (mount_of o.place))) x.at (stands x.key) x.alive))
+module _ (w v : World) (hw : IsWhole w) (hv : IsWhole v) (grows : Grows w v) where
+  still : (a : ℕ) → a < w.next_mount → IsStanding w a → IsStanding v a
+  still a less = stands_on_still w v hw hv grows.adds a less (λ p _ l. (stays_dir (facts_of w) (facts_of v) grows.stays p l.0, over_stays (facts_of w) (facts_of v) grows.stays.kinds p l.1))
 
-    by : (o : Option Open) → IfSome o (λ o. o.dead ≡ false → HasOpen w (mount_of o.place) ⊎ (is_cut (facts_of v) (mount_of o.place) ≡ false)) → IfSome o (λ o. o.dead ≡ false → IsStanding v (mount_of o.place))
-    by (Some o) x = λ alive. elim (x alive) as (λ _. IsStanding v (mount_of o.place)) [ inl old ↦ from (mount_of o.place) old | inr uncut ↦ uncut_stands v hv (mount_of o.place) uncut ]
-    by None x = tt
+  of_open : AreStanding w → (a : ℕ) → HasOpen w a → IsStanding v a
+  of_open stands a x =
+      still a (subst (λ y. y < w.next_mount) x.mount (open_number w hw x.key x.file x.at x.alive))
+      (subst (IsStanding w) x.mount (subst (λ o. IfSome o (λ o. o.dead ≡ false → IsStanding w (mount_of o.place))) x.at (stands x.key) x.alive))
+
+  of_cwd : AllStand w → (a : ℕ) → HasCwd w a → IsStanding v a
+  of_cwd stands a x =
+      still a (subst (λ y. y < w.next_mount) x.mount (cwd_number w hw x.caller x.dir x.at x.alive))
+      (subst (IsStanding w) x.mount (subst (λ o. IfSome o (λ d. d.dead ≡ false → IsStanding w (mount_of d.place))) x.at (stands.cwds x.caller) x.alive))
+
+  of_held : AreStanding w → (a : ℕ) → IsHeld w v a → IsStanding v a
+  of_held stands a x = elim x as (λ _. IsStanding v a) [ inl old ↦ of_open stands a old | inr uncut ↦ uncut_stands v hv a uncut ]
+
+  pub grown_stands : AreStanding w → AreStanding v
+  grown_stands stands k = by (get v.opens k) (grows.opens k)
+    where
+      by : (o : Option Open) → IfSome o (λ o. o.dead ≡ false → IsHeld w v (mount_of o.place)) → IfSome o (λ o. o.dead ≡ false → IsStanding v (mount_of o.place))
+      by (Some o) x = λ alive. of_held stands (mount_of o.place) (x alive)
+      by None x = tt
+
+  pub all_grown : AllStand w → AllStand v
+  all_grown stands = record { opens = grown_stands stands.opens; cwds = λ c. by (get v.cwds c) (grows.cwds c) }
+    where
+      by : (o : Option Cwd) → IfSome o (λ d. d.dead ≡ false → HasCwd w (mount_of d.place) ⊎ IsHeld w v (mount_of d.place)) → IfSome o (λ d. d.dead ≡ false → IsStanding v (mount_of d.place))
+      by (Some d) x = λ alive. elim (x alive) as (λ _. IsStanding v (mount_of d.place)) [ inl old ↦ of_cwd stands (mount_of d.place) old | inr held ↦ of_held stands.opens (mount_of d.place) held ]
+      by None x = tt
 
 -- ---- a mount goes
 
@@ -220,8 +258,7 @@ module _ (f g : Facts) (m : ℕ) (same : (n : ℕ) → (n ≡ m → ⊥) → kin
   free_over (UnionUp n i) x h = tt
   free_over (UnionLow n u a p) x h = (ap lower_mount (same n x.0) ∙ h.0, free_over p x.1 h.1)
 
-module _ (w : World) (m : ℕ) (leaving : Leaving) (hw : IsWhole w) (hv : IsWhole (record w { mounts = remove w.mounts m; leaving = leaving }))
-    (none : (k : ℕ × ℕ) (o : Open) → get w.opens k ≡ Some o → o.dead ≡ false → is_of w.mounts m (mount_of o.place) ≡ false) where
+module _ (w : World) (m : ℕ) (leaving : Leaving) (hw : IsWhole w) (hv : IsWhole (record w { mounts = remove w.mounts m; leaving = leaving })) where
   abbrev u : World
   u = record w { mounts = remove w.mounts m; leaving = leaving }
 
@@ -254,15 +291,25 @@ module _ (w : World) (m : ℕ) (leaving : Leaving) (hw : IsWhole w) (hv : IsWhol
     not_named a free p over.1 (under w hw.sound a n (mount_of p) (is_layer (get w.mounts n) (kind_in (facts_of w) n) (mount_of p) refl over.0) of),
   )
 
-  pub left_stands : AreStanding w → AreStanding u
-  left_stands stands k = by (get w.opens k) refl (stands k)
+  -- a mount that didn't stand on it
+  apart_stands : (a : ℕ) → a < w.next_mount → is_of w.mounts m a ≡ false → IsStanding w a → IsStanding u a
+  apart_stands a less none stands =
+      stands_on_still w u hw hv left_adds a less
+      (λ p of l.
+      let not = not_named a none p l.1 of in
+      (free_dir (facts_of w) (facts_of u) m left_same (λ s i. refl) p not l.0, free_over (facts_of w) (facts_of u) m left_same (λ s i. refl) p not l.1))
+      stands
+
+  pub left_stands : ((k : ℕ × ℕ) (o : Open) → get w.opens k ≡ Some o → o.dead ≡ false → is_of w.mounts m (mount_of o.place) ≡ false) → AreStanding w → AreStanding u
+  left_stands none stands k = by (get w.opens k) refl (stands k)
     where
       by : (o : Option Open) → get w.opens k ≡ o → IfSome o (λ o. o.dead ≡ false → IsStanding w (mount_of o.place)) → IfSome o (λ o. o.dead ≡ false → IsStanding u (mount_of o.place))
-      by (Some o) at x = λ alive.
-          let a = mount_of o.place in
-          stands_on_still w u hw hv left_adds a (open_number w hw k o at alive)
-          (λ p of l.
-          let not = not_named a (none k o at alive) p l.1 of in
-          (free_dir (facts_of w) (facts_of u) m left_same (λ s i. refl) p not l.0, free_over (facts_of w) (facts_of u) m left_same (λ s i. refl) p not l.1))
-          (x alive)
+      by (Some o) at x = λ alive. apart_stands (mount_of o.place) (open_number w hw k o at alive) (none k o at alive) (x alive)
       by None at x = tt
+
+  pub all_left : NoneIn w u m → AllStand w → AllStand u
+  all_left none stands = record { opens = left_stands none.opens stands.opens; cwds = λ c. by c (get w.cwds c) refl (stands.cwds c) }
+    where
+      by : (c : ℕ) (o : Option Cwd) → get w.cwds c ≡ o → IfSome o (λ d. d.dead ≡ false → IsStanding w (mount_of d.place)) → IfSome o (λ d. d.dead ≡ false → IsStanding u (mount_of d.place))
+      by c (Some d) at x = λ alive. apart_stands (mount_of d.place) (cwd_number w hw c d at alive) (none.cwds c d at alive) (x alive)
+      by c None at x = tt

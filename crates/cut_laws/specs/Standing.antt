@@ -21,3 +21,8 @@ IsStanding w a = (n : ℕ) → is_of w.mounts n a ≡ true → IfSome (kind_in (
 -- the mount of each open file that isn't dead stands so, a cut one too
 abbrev pub AreStanding : World → Type 0
 AreStanding w = (k : ℕ × ℕ) → IfSome (get w.opens k) (λ o. o.dead ≡ false → IsStanding w (mount_of o.place))
+
+-- so does that of each live reference: of each open file and of each current directory that isn't dead
+pub record AllStand (w : World) : Type 0 where
+  pub opens : AreStanding w
+  pub cwds : (c : ℕ) → IfSome (get w.cwds c) (λ d. d.dead ≡ false → IsStanding w (mount_of d.place))

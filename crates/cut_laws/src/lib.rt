@@ -9,4 +9,4 @@ mod standing;
 pub use cut::{
     a_shadow_directory_in_a_cut_union_changes_nothing_shown, needed_shadows_change_nothing_shown,
 };
-pub use standing::mounts_of_open_files_stand;
+pub use standing::{mounts_of_open_files_stand, mounts_of_references_stand};

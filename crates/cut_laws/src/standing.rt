@@ -13,7 +13,7 @@ ghost use Rattle.call_model.specs.declared.entry.Entry.TheVariants as entry;
 ghost use Rattle.call_model.specs.declared.entry.Inner.{Inner};
 ghost use Rattle.call_model.specs.declared.reply.Reply.{Reply};
 ghost use Rattle.call_laws.specs.Lasting.{IsLasting};
-ghost use Rattle.cut_laws.specs.Standing.{AreStanding};
+ghost use Rattle.cut_laws.specs.Standing.{AllStand, AreStanding};
 
 /// The mounts of open files stand, also those that a forced unmount has cut off: a law of the model, with no code. What they
 /// stand on goes when nothing is open in them.
@@ -32,4 +32,23 @@ pub fn mounts_of_open_files_stand()
     // From a sound world that lasts, in which they stand, the same holds.
     ensures history_on { (p : Pending) (w : World) (es : List Entry)
         → IsLegal p w es → IsSound w → IsLasting w → AreStanding w → AreStanding (replay w es) }
+{}
+
+/// The mounts of live references stand, of open files and of current directories: a law of the model, with no code. So
+/// what a live reference stands on is there.
+pub fn mounts_of_references_stand()
+    // At the start each caller's current directory is in a mount that stands.
+    ensures start { (limits : Limits) → AllStand (start_world limits) }
+    // What a call needs leaves them standing,
+    ensures needed { (w : World) (c : ℕ) (call : Call) (x : Inner)
+        → row w c call ≡ Wants x → IsSound w → IsLasting w → AllStand w → AllStand (effect w c x) }
+    // and so does each call, whatever it answers,
+    ensures call { (w : World) (c : ℕ) (call : Call) (r : Reply)
+        → IsSound w → IsLasting w → AllStand w → AllStand (after w (entry.Call c call r)) }
+    // and every legal history from the start.
+    ensures history { (limits : Limits) (p : Pending) (es : List Entry)
+        → IsLegal p (start_world limits) es → AllStand (replay (start_world limits) es) }
+    // From a sound world that lasts, in which they stand, the same holds.
+    ensures history_on { (p : Pending) (w : World) (es : List Entry)
+        → IsLegal p w es → IsSound w → IsLasting w → AllStand w → AllStand (replay w es) }
 {}
