@@ -4,3 +4,6 @@ pub mod CutLaws
 pub mod StandLaws
 pub mod GrowLaws
 pub mod HistoryLaws
+pub mod StackLaws
+pub mod DoomRows
+pub mod DoomLaws

@@ -13,7 +13,8 @@ ghost use Rattle.call_model.specs.declared.entry.Ref.{Ref};
 ghost use Rattle.call_laws.specs.Leaving.{IsLeaver};
 ghost use Rattle.layer_laws.specs.Deepest.{IsDeepest, IsDeepestOn};
 
-/// The deepest reference is doomed first: a law of the model, with no code. So what a reference stands on outlives it.
+/// The deepest reference is doomed first: a law of the model, with no code. A place is deeper than those on which it
+/// stands, so what a live reference stands on outlives it: `what_a_reference_stands_on_outlives_it` of `cut_laws`.
 pub fn the_deepest_reference_is_doomed_first()
     // The first live reference in a mount or in one that stands on it is at the greatest depth of these; where several are,
     // no other comes before it by caller, descriptor and current directory.
