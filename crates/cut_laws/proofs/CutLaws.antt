@@ -1,15 +1,15 @@
 -- A shadow directory that a call needs in a union that is cut leaves what the union shows.
-use Rattle.std.proofs.Common.{◌≡◌, ℕ, Bool, true, false, not, ◌==◌, List, refl, ap, sym, ◌∙◌, subst, eq-eqb}
-use Rattle.std.specs.Prelude.{Option, Some, None, IfSome, option_map}
+use Rattle.std.proofs.Common.{◌≡◌, ℕ, Bool, true, false, not, List, refl, ap, sym, ◌∙◌, subst}
+use Rattle.std.specs.Prelude.{Option, Some, None, option_map}
 use Rattle.std.specs.FinMap.{get, empty}
 use Rattle.vfs_tree.specs.Edits.{made, with_store, new_dir}
 use Rattle.vfs_tree.specs.Facts.{Facts}
 use Rattle.vfs_tree.specs.Layers.{kind_in, store_by, root_of, root_by, is_cut, is_dir, is_dir_kind}
-use Rattle.vfs_tree.specs.Mounts.{Mounts, Leaving, stands_on}
+use Rattle.vfs_tree.specs.Mounts.{Mounts, Leaving}
 use Rattle.vfs_tree.specs.Place.{Seen, mount_of}
 use Rattle.vfs_tree.specs.Shown.{shown_node, shown_at, shown}
 use Rattle.vfs_tree.specs.Shown as seen
-use Rattle.vfs_tree.specs.Sound.{IsSoundPlace, IsSound}
+use Rattle.vfs_tree.specs.Sound.{IsSound}
 use Rattle.vfs_tree.specs.Views.{kind_of_node, facts_of}
 use Rattle.vfs_tree.specs.Visible.{Listed, visible}
 use Rattle.vfs_tree.specs.declared.mount.MountKind.{MountKind}
@@ -28,14 +28,13 @@ use Rattle.call_model.specs.declared.call.Call.TheVariants as call
 use Rattle.call_model.specs.declared.entry.Inner.{Inner}
 use Rattle.call_model.specs.declared.entry.Inner.TheVariants.{Shadow, CopyUp, Detach, Doom}
 use Rattle.call_model.specs.declared.reply.Reply.{Reply}
-use Rattle.call_laws.specs.Lasting.{IsOver, IsLasting}
+use Rattle.call_laws.specs.Lasting.{IsLasting}
 use Rattle.call_laws.proofs.FoundLaws.{IsGood, dir_ready}
 use Rattle.call_laws.proofs.NamedLaws.{no_way}
 use Rattle.call_laws.proofs.Parts.{Keeps, Any, found_so, refused, needed, then, unless}
 use Rattle.call_laws.proofs.PlaceLaws.{good_view}
-use Rattle.call_laws.proofs.SoundParts.{stays_place, is_so, or_first}
+use Rattle.call_laws.proofs.SoundParts.{is_so}
 use Rattle.call_laws.proofs.Whole.{IsWhole}
-use Rattle.call_laws.proofs.WholeLaws.{over_stays, dir_stays}
 use Rattle.layer_laws.specs.Apart.{IsApart}
 use Rattle.layer_laws.specs.Listings.{IsCutListing}
 use Rattle.layer_laws.proofs.UncutLaws.{Comes, Whatever, uncut-visible}
@@ -44,23 +43,23 @@ use Rattle.layer_laws.proofs.UnionLaws.{shadow_root}
 use Rattle.need_laws.specs.Showing.{ShowsAsBefore}
 use Rattle.need_laws.proofs.NeededShown.{lacks_dir, needed_shadow}
 use Rattle.need_laws.proofs.ShadowLaws.{ShowsDir, ShadowAt, StepsSo, Anything, need-visible}
+use Rattle.cut_laws.specs.OpenDirs.{IsOpenDir}
 use Rattle.cut_laws.specs.Standing.{IsStanding, AreStanding}
 use Rattle.cut_laws.proofs.SameLaws.{other, same_tree, same_visible}
-use Rattle.cut_laws.proofs.FreedLaws.{freed, v, same_kinds, stays, place_freed, freed_whole, freed_apart}
+use Rattle.cut_laws.proofs.FreedLaws.{freed, v, same_kinds, freed_whole, freed_apart}
+use Rattle.cut_laws.proofs.OpenLaws.{open_stands, open_dir, open_uncut, open_over}
 
 -- ---- a listing that needs a shadow directory
 
 -- an open directory whose listing needs it
-pub record IsListed (w : World) (c d m u : ℕ) (n : List ℕ) : Type 0 where
+pub record IsListed (w : World) (m u : ℕ) (n : List ℕ) : Type 0 where
   pub file : Open
-  pub at : get w.opens (c, d) ≡ Some file
-  pub alive : file.dead ≡ false
-  pub dir : is_dir (facts_of w) file.place ≡ true
+  pub dir : IsOpenDir w file
   pub needs : visible w file.place ≡ Wants (record { mount = m; dir = u; name = n })
 
 module _ (w : World) (c d : ℕ) where
   abbrev Listing : Inner → Type 0
-  Listing (Shadow m u n) = IsListed w c d m u n
+  Listing (Shadow m u n) = IsListed w m u n
   Listing (CopyUp m u n) = Unit {0}
   Listing (Detach m) = Unit {0}
   Listing (Doom at) = Unit {0}
@@ -73,7 +72,7 @@ module _ (w : World) (c d : ℕ) where
   lifted_so o at alive dir (Go names) is = found_so tt
   lifted_so o at alive dir (Refuse e) is = refused
   lifted_so o at alive dir (Wants x) is =
-      unless (is_full w (upper_store w x.mount)) _ (λ _. needed (record { file = o; at = at; alive = alive; dir = dir; needs = is }))
+      unless (is_full w (upper_store w x.mount)) _ (λ _. needed (record { file = o; dir = record { key = (c, d); at = at; alive = alive; dir = dir }; needs = is }))
 
   readdir_so : Keeps Any Listing (rows.readdir w c d)
   readdir_so =
@@ -82,10 +81,10 @@ module _ (w : World) (c d : ℕ) where
       unless (not (is_dir (facts_of w) o.place)) _ (λ dir.
       then (lifted w (visible w o.place)) (lifted_so o at alive (is_so (is_dir (facts_of w) o.place) dir) (visible w o.place) refl) (λ _ _. found_so tt))))
 
-  listed : (m u : ℕ) (n : List ℕ) → row w c (call.Readdir d) ≡ Wants (Shadow m u n) → IsListed w c d m u n
+  listed : (m u : ℕ) (n : List ℕ) → row w c (call.Readdir d) ≡ Wants (Shadow m u n) → IsListed w m u n
   listed m u n wants = of (subst (λ (r : Doing (World × Reply)). Keeps Any Listing r) wants readdir_so)
     where
-      of : Keeps {A = World × Reply} Any Listing (Wants (Shadow m u n)) → IsListed w c d m u n
+      of : Keeps {A = World × Reply} Any Listing (Wants (Shadow m u n)) → IsListed w m u n
       of x = x.holds
 
 -- ---- in the world in which its mount isn't cut
@@ -107,7 +106,7 @@ edit_kinds : (w : World) (mounts : Mounts) (leaving : Leaving) (edit : Store →
 edit_kinds w mounts leaving edit s (Some t) same m = same m
 edit_kinds w mounts leaving edit s None same m = same m
 
-module _ (w : World) (h : IsWhole w) (apart : IsApart w) (c d m u : ℕ) (n : List ℕ) (x : IsListed w c d m u n) (stands : IsStanding w (mount_of x.file.place)) (room : is_full w (upper_store w m) ≡ false) where
+module _ (w : World) (h : IsWhole w) (apart : IsApart w) (c m u : ℕ) (n : List ℕ) (x : IsListed w m u n) (stands : IsStanding w (mount_of x.file.place)) (room : is_full w (upper_store w m) ≡ false) where
   abbrev a : ℕ
   a = mount_of x.file.place
 
@@ -129,23 +128,14 @@ module _ (w : World) (h : IsWhole w) (apart : IsApart w) (c d m u : ℕ) (n : Li
   whole : IsWhole new
   whole = freed_whole w h a stands
 
-  if_open : (o : Option Open) (P : Open → Type 0) → IfSome o P → (y : Open) → o ≡ Some y → P y
-  if_open o P q y is = subst (λ o. IfSome o P) is q
-
-  sound_there : IsSoundPlace f p
-  sound_there = if_open (get w.opens (c, d)) (λ o. o.dead ≡ false → IsSoundPlace f o.place) (h.sound.opens (c, d)) x.file x.at x.alive
-
-  over_there : IsOver f p
-  over_there = if_open (get w.opens (c, d)) (λ o. o.dead ≡ false → IsOver f o.place) (h.lasts.opens (c, d)) x.file x.at x.alive
-
   good : IsGood g p
   good =
-      let place = stays_place f g (stays w h a stands) p sound_there in
+      let dir = open_dir w h x.file x.dir stands in
       record {
-        sound = place;
-        uncut = place_freed w h a stands p over_there (or_first (a == a) (stands_on w.mounts a a) (eq-eqb a a refl));
-        over = over_stays f g (stays w h a stands).kinds p over_there;
-        ready = dir_ready g p place.files (dir_stays f g (stays w h a stands) p sound_there x.dir);
+        sound = dir.place;
+        uncut = open_uncut w h x.file x.dir stands;
+        over = open_over w h x.file x.dir stands;
+        ready = dir_ready g p dir.place.files dir.dir;
       }
 
   needs : visible new p ≡ Wants (record { mount = m; dir = u; name = n })
@@ -202,7 +192,7 @@ cut_shown : (w : World) → IsWhole w → IsApart w → AreStanding w → (c m u
     → ShowsAsBefore w (effect w c (Shadow m u n)) m
 cut_shown w h apart stands c m u (call.Readdir d) n wants room cut =
     let y = listed w c d m u n wants in
-    listed_shown w h apart c d m u n y (subst (λ o. IfSome o (λ o. o.dead ≡ false → IsStanding w (mount_of o.place))) y.at (stands (c, d)) y.alive) room
+    listed_shown w h apart c m u n y (open_stands w y.file stands y.dir) room
 cut_shown w h apart stands c m u _ n wants room cut = absurd cut
 
 pub needed_shown : (w : World) (c m u : ℕ) (x : Call) (n : List ℕ) → IsSound w → IsLasting w → IsApart w → AreStanding w → row w c x ≡ Wants (Shadow m u n) → ShowsAsBefore w (effect w c (Shadow m u n)) m

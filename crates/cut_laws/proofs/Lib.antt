@@ -7,3 +7,5 @@ pub mod HistoryLaws
 pub mod StackLaws
 pub mod DoomRows
 pub mod DoomLaws
+pub mod OpenLaws
+pub mod ListLaws

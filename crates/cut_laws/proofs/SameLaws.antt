@@ -107,7 +107,7 @@ module _ (w : World) (mounts : Mounts) (leaving : Leaving) (same : (m : ℕ) →
       ∙ same_union m u n (upper_entry f (kind_in f m) u n) over under (same_beside (shown_within k f) (shown_within k g) (same_within k) m u n)
   same_within (suc k) (UnionLow m u a p) n = refl
 
-  same_child : (d : Seen) (n : List ℕ) → shown_child g d n ≡ shown_child f d n
+  pub same_child : (d : Seen) (n : List ℕ) → shown_child g d n ≡ shown_child f d n
   same_child d n = same_within (suc (mount_of d)) d n
 
   same_along : (ns : List (List ℕ)) (c : Child) → shown_along g c ns ≡ shown_along f c ns
