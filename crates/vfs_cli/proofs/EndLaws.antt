@@ -3,7 +3,7 @@ use Rattle.std.proofs.Common.{◌≡◌, ℕ, ◌<◌, List, [], length, refl, s
 use Rattle.std.specs.Prelude.{Option, Some, ◌⊎◌}
 use Rattle.std.specs.Io.KnownBytes.{Appends, Consumes}
 use Rattle.std.proofs.KnownBytes.{Appends-nil}
-use Rattle.vfs_flow.specs.Whole.{ReadsFewer, WritesFront}
+use Rattle.vfs_flow.specs.Whole.{WritesFront}
 use Rattle.vfs_cli.specs.declared.serial.Ending.{Ending}
 use Rattle.vfs_cli.specs.declared.serial.Ending.TheVariants as ending
 use Rattle.vfs_cli.specs.declared.words.Command.{Command}
@@ -12,7 +12,7 @@ use Rattle.script_text.specs.Script.{HasText, IsTextOf}
 use Rattle.script_text.specs.declared.script.Script.{Script}
 use Rattle.vfs_cli.specs.Output.{Outputs}
 use Rattle.vfs_cli.specs.declared.words.Command.TheVariants.{Run, Gen, Show}
-use Rattle.vfs_cli.specs.Outcome.{Ends, ReadAll, ReadNothing, WroteNothing, Wants, IsBad, WroteFront, Written, Told, Outcome, bad_text, code_of}
+use Rattle.vfs_cli.specs.Outcome.{Ends, ReadAll, ReadNothing, ReadSoFar, WroteNothing, Wants, IsBad, WroteFront, Written, Told, Outcome, bad_text, code_of}
 
 -- what a command has to write was written, or a front of it
 pub written_all : (command : Command) (e : Ends) (text : List ℕ) (end : Ending) → Wants command e text → Written e.written e.written' e.sink e.sink' text end → Outcome (Some command) e end
@@ -72,8 +72,13 @@ front_few : (command : Command) (e : Ends) → WroteFront command e → ReadFew 
 front_few command e (inl h) = wanted_few command e h.0 h.1
 front_few command e (inr h) = bad_few command e h.0 h.1
 
-lacking_few : (command : Command) (e : Ends) → (ReadsFewer 1048577 e.left e.left' × WroteNothing e) ⊎ WroteFront command e → ReadFew e
-lacking_few command e (inl h) = h.0
+so_far_few : (command : Command) (e : Ends) → ReadSoFar command e → ReadFew e
+so_far_few (Run turns) e h = h
+so_far_few (Gen seed calls) e h = nothing_few e h
+so_far_few (Show seed calls) e h = nothing_few e h
+
+lacking_few : (command : Command) (e : Ends) → (ReadSoFar command e × WroteNothing e) ⊎ WroteFront command e → ReadFew e
+lacking_few command e (inl h) = so_far_few command e h.0
 lacking_few command e (inr h) = front_few command e h
 
 pub read_few : (words : Option Command) (e : Ends) (end : Ending) → Outcome words e end → (code_of end ≡ 27 → ⊥) → ReadFew e

@@ -58,6 +58,13 @@ WroteFront command e =
     ((text : List ℕ) × Wants command e text × WritesFront e.written e.written' text)
     ⊎ ((line : ℕ) × IsBad command e line × WritesFront e.written e.written' (bad_text line))
 
+-- what may have been read where memory was wanting before anything was written: of a script fewer bytes than are too many,
+-- and nothing where the script is made
+abbrev pub ReadSoFar : Command → Ends → Type 0
+ReadSoFar (Run turns) e = ReadsFewer 1048577 e.left e.left'
+ReadSoFar (Gen seed calls) e = ReadNothing e
+ReadSoFar (Show seed calls) e = ReadNothing e
+
 -- what was written of a text, and the ending that tells it
 abbrev pub Written : Option (List ℕ) → Option (List ℕ) → ℕ → ℕ → List ℕ → Ending → Type 0
 Written written written' sink sink' text ending.Done = Appends written written' text
@@ -75,7 +82,7 @@ Told written written' sink sink' line _ = ⊥
 -- the table of endings: what was read and written, and the cause
 abbrev pub Outcome : Option Command → Ends → Ending → Type 0
 Outcome words e ending.Done = (command : Command) × (text : List ℕ) × (words ≡ Some command) × Wants command e text × Appends e.written e.written' text
-Outcome words e ending.NoMemory = (command : Command) × (words ≡ Some command) × ((ReadsFewer 1048577 e.left e.left' × WroteNothing e) ⊎ WroteFront command e)
+Outcome words e ending.NoMemory = (command : Command) × (words ≡ Some command) × ((ReadSoFar command e × WroteNothing e) ⊎ WroteFront command e)
 Outcome words e ending.TooLong = (command : Command) × (bytes : List ℕ) × (words ≡ Some command) × (reads command ≡ true) × (length bytes ≡ 1048577) × Consumes e.left e.left' bytes × WroteNothing e
 Outcome words e ending.Usage = (words ≡ None) × ReadNothing e × WroteNothing e
 Outcome words e (ending.BadScript line) = (command : Command) × (words ≡ Some command) × IsBad command e line × Appends e.written e.written' (bad_text line)

@@ -35,6 +35,9 @@ const UNION_OUTPUT: &[u8] =
 
 const PAIR: &[u8] = b"vfs 1\nlimits 2 1 1 144\n1 mkdir /a\n2 mkdir /b\nend\n";
 
+const PAIRS: &[u8] =
+    b"vfs 1\nlimits 2 1 1 144\n1 mkdir /a\n2 mkdir /b\n1 mkdir /c\n2 mkdir /d\nend\n";
+
 fn words_of(alloc: Global, text: &str) -> Result<Vec<String>, AllocError> {
     let mut words = Vec::new(alloc);
     for word in text.split(' ') {
@@ -136,10 +139,12 @@ fn a_shown_script_runs(rt: HostRuntime) -> Result<(), Fail> {
 fn a_summary_is_the_same_at_each_run(rt: HostRuntime) -> Result<(), Fail> {
     let alloc = rt.alloc();
     let (status, first) = run_of(alloc, "gen --seed 7 --calls 2000", EMPTY)?;
-    let (_status, second) = run_of(alloc, "gen --seed 7 --calls 2000", EMPTY)?;
-    assert_eq!(rt; status.code, 0);
+    let (again, second) = run_of(alloc, "gen --seed 7 --calls 2000", EMPTY)?;
+    assert_eq!(rt; (status.code, again.code), (0, 0));
     assert_eq!(rt; first.bytes(), second.bytes());
     assert!(rt; first.bytes().starts_with(b"calls 2000\n"));
+    let text = str::from_utf8(first.bytes()).unwrap_or("");
+    assert!(rt; text.contains("\nnomemory 0\n"));
     Ok(())
 }
 
@@ -176,6 +181,18 @@ fn each_failing_write_ends_the_run(rt: HostRuntime) -> Result<(), Fail> {
         assert_eq!(rt; status.code, code, "room for {room}");
         assert_eq!(rt; sink.bytes(), &OUTPUT[..room]);
     }
+    Ok(())
+}
+
+#[test]
+fn a_sink_that_is_full_has_a_front(rt: HostRuntime) -> Result<(), Fail> {
+    let alloc = rt.alloc();
+    let words = words_of(alloc, "run --order")?;
+    let mut source = SureSource::new(Vec::from_slice(alloc, EMPTY)?);
+    let mut sink = MemSink::new(alloc, 10);
+    let status = serial_main(alloc, &words, &mut source, &mut sink);
+    assert_eq!(rt; status.code, 75);
+    assert_eq!(rt; sink.bytes(), b"vfs output".as_slice());
     Ok(())
 }
 
@@ -219,6 +236,24 @@ fn a_held_call_comes_second(rt: HostRuntime) -> Result<(), Fail> {
     let start = b"vfs output 1\n2 mkdir /b = ok\n1 mkdir /a = ok\ntrees\n";
     assert!(rt; sink.bytes().starts_with(start));
     assert!(rt; gate.holds() < 100_000_000);
+    Ok(())
+}
+
+#[test]
+fn a_held_second_call_comes_last(rt: HostRuntime) -> Result<(), Fail> {
+    let alloc = rt.alloc();
+    let table = [
+        (1, 2, " = ok\n1 mkdir /c = ok\ntrees\n"),
+        (2, 1, " = ok\n2 mkdir /d = ok\ntrees\n"),
+    ];
+    for (held, other, last) in table {
+        let gate = FlagGate::new(held, 1, other, 1);
+        let (status, sink) = run_at(&rt, alloc, &gate, "run", PAIRS)?;
+        assert_eq!(rt; status.code, 0);
+        let text = str::from_utf8(sink.bytes()).unwrap_or("");
+        assert!(rt; text.contains(last), "{text}");
+        assert!(rt; gate.holds() < 100_000_000);
+    }
     Ok(())
 }
 

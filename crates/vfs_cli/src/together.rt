@@ -108,11 +108,11 @@ fn run_workers<R: Threads + Wait + Sync, G: Gate + Sync>(
 {
     let mut plans = plans;
     let mut workers = Vec::with_capacity(alloc, plans.len())?;
-    let (vfs, seat) = Vfs::new(alloc, kern)?;
+    let (vfs, seat) = Vfs::new(rt, alloc, kern)?;
     hire(&vfs, seat, &mut plans, &mut workers);
     work_all(rt, alloc, &vfs, gate, &mut workers);
     let seat = gather(&vfs, &mut workers, &mut plans);
-    Ok((vfs.close(seat), plans))
+    Ok((vfs.close(rt, seat), plans))
 }
 
 /// A job of what is left of the script after the callers have made their calls, each on a thread of its own. The only fault is

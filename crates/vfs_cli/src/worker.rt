@@ -6,7 +6,6 @@ ghost use Rattle.vfs_cli.specs.declared.worker.Worker.{Worker};
 
 use crate::plan::Plan;
 use std::alloc::Global;
-use std::hint::spin_loop;
 use std::sync::Wait;
 use std::thread;
 use std::thread::Threads;
@@ -34,7 +33,7 @@ fn wait_at<G: Gate>(gate: &G, caller: u32, call: u32) {
         if gate.before(caller, call) == Pace::Go {
             return;
         }
-        spin_loop();
+        thread::yield_now();
     }
 }
 

@@ -19,7 +19,7 @@ const LIMITS: Limits = Limits {
 };
 
 // A kernel that is shared, and the seats of its two callers.
-fn opened(rt: &impl Abort, alloc: Global) -> (Vfs, Seat, Seat)
+fn opened<R: Abort + Wait>(rt: &R, alloc: Global) -> (Vfs, Seat, Seat)
     ensures limits { result.0.limits ≡ LIMITS }
     ensures first { IsSeatOf result.0 result.1 × (has_number 1 result.1 ≡ true) }
     ensures second { IsSeatOf result.0 result.2 × (has_number 2 result.2 ≡ true) }
@@ -28,7 +28,7 @@ fn opened(rt: &impl Abort, alloc: Global) -> (Vfs, Seat, Seat)
         Ok(kern) => kern,
         Err(_) => panic!(rt; "no memory"),
     };
-    match Vfs::new(alloc, kern) {
+    match Vfs::new(rt, alloc, kern) {
         Ok((vfs, mut first)) => {
             let second = vfs.split(&mut first, 2);
             (vfs, first, second)
@@ -38,13 +38,13 @@ fn opened(rt: &impl Abort, alloc: Global) -> (Vfs, Seat, Seat)
 }
 
 // The kernel when both seats are done with.
-fn closed(vfs: Vfs, mut first: Seat, second: Seat) -> Kern
+fn closed(rt: &impl Wait, vfs: Vfs, mut first: Seat, second: Seat) -> Kern
     requires limits { vfs.limits ≡ LIMITS }
     requires first { IsSeatOf vfs first × (has_number 1 first ≡ true) }
     requires second { IsSeatOf vfs second × (has_number 2 second ≡ true) }
 {
     vfs.join(&mut first, second);
-    vfs.close(first)
+    vfs.close(rt, first)
 }
 
 // What a call of a seat comes to.
@@ -80,7 +80,7 @@ fn seats_see_one_world(rt: HostRuntime) -> Result<(), Fail> {
     assert_eq!(rt; seen_of(&rt, alloc, &vfs, &mut second, call), Seen::Done);
     let call = stat(alloc, b"/b").expect(&rt, "no memory");
     assert_eq!(rt; seen_of(&rt, alloc, &vfs, &mut first, call), Seen::Dir);
-    let kern = closed(vfs, first, second);
+    let kern = closed(&rt, vfs, first, second);
     assert!(rt; has_order(&kern, &[1, 2, 1, 2, 1]));
     Ok(())
 }

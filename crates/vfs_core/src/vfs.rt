@@ -60,8 +60,8 @@ impl Model for Vfs {
 
 impl Vfs {
     /// Shares a kernel in which no call is live, and gives the seat of caller 1, which has the numbers of all callers. The
-    /// only fault is want of memory, and then the kernel is dropped.
-    pub fn new(alloc: Global, kern: Kern) -> Result<(Vfs, Seat), AllocError>
+    /// only fault is want of memory, and then the kernel is dropped. It doesn't wait yet.
+    pub fn new(_rt: &impl Wait, alloc: Global, kern: Kern) -> Result<(Vfs, Seat), AllocError>
         requires idle { kern.pending ≡ map.empty }
         ensures limits { IfOk result (λ t. t.0.limits ≡ kern.limits) }
         ensures seat { IfOk result (λ t. IsSeatOf t.0 t.1) }
@@ -153,8 +153,8 @@ impl Vfs {
     }
 
     /// Ends the sharing, and gives the kernel back, in which no call is live. The seat has the numbers of all callers, so no
-    /// other one is left to wait for.
-    pub fn close(self, seat: Seat) -> Kern
+    /// other one is left to wait for, and it doesn't wait yet.
+    pub fn close(self, _rt: &impl Wait, seat: Seat) -> Kern
         requires own { IsSeatOf self seat }
         requires all { (n : ℕ) → IsCaller self.limits n → has_number n seat ≡ true }
         ensures limits { result.limits ≡ self.limits }

@@ -8,7 +8,7 @@ use Rattle.vfs_core.proofs.SeatLaws.{knows_all, none_live}
 use Rattle.vfs_core.proofs.vfs.Vfs.close.Goals as goal
 
 pub returns-clause-idle : goal.returns-clause-idle
-returns-clause-idle c =
+returns-clause-idle g c =
     let kern = c.close-kern.result in
     let same = c.close-kern.ensures.same ∙ ap (λ (v : Sharing). v.limits) c.self.view_is in
     let born = known_calls c.seat.inside.caller c.seat.inside.born.value in
@@ -18,4 +18,4 @@ returns-clause-idle c =
     (knows_all c.seat.inside.caller born c.seat.inside.pass kern n c.seat.invariant has c.close-kern.ensures.known).1)
 
 pub returns-clause-legal : goal.returns-clause-legal
-returns-clause-legal c = subst (λ (m : Pending). IsLegal m (start_world c.close-kern.result.limits) c.close-kern.result.history) (returns-clause-idle c) c.history-history.ensures.legal
+returns-clause-legal g c = subst (λ (m : Pending). IsLegal m (start_world c.close-kern.result.limits) c.close-kern.result.history) (returns-clause-idle g c) c.history-history.ensures.legal

@@ -6,7 +6,7 @@ use Rattle.vfs_core.proofs.SeatLaws.{first_seated}
 use Rattle.vfs_core.proofs.vfs.Vfs.new.Goals as goal
 
 pub invariant_of-result-in-Ok : goal.invariant_of-result-in-Ok
-invariant_of-result-in-Ok c =
+invariant_of-result-in-Ok g c =
     let limits = c.limits-numbers.ensures in
     let made = c.in-Ok.ensures in
     let p = c.in-Ok.pass in
