@@ -2,3 +2,4 @@ pub mod Middle
 pub mod Search
 pub mod Listing
 pub mod Edits
+pub mod Last

@@ -6,6 +6,7 @@ use Rattle.std.specs.Coded.{Coded, code_by, coded×, coded_ℕ}
 use Rattle.vfs_tree.specs.Name.{coded_name}
 use Rattle.vfs_tree.specs.contracts.node.NameEntry as entry
 use Rattle.vfs_tree.specs.Nodes.{Names}
+use Rattle.vfs_tree.specs.Visible.{given_name}
 use Rattle.mem_dir.specs.Records.{Record, joined, IsRising, AreFilled}
 use Rattle.vfs_tree.specs.declared.node.NameEntry.{NameEntry}
 use Rattle.vfs_tree.specs.declared.node.NameEntry.TheVariants.{Ino, White}
@@ -22,19 +23,10 @@ directory_code =
     code_by (Names × (ℕ × ℕ)) (coded× (code coded_name entry.the_row.coded) (coded× coded_ℕ coded_ℕ)) (λ d. (d.names, (d.spare, d.reads)))
     (λ p. record { names = p.0; spare = p.1.0; reads = p.1.1 }) (λ _. refl)
 
--- a name that gives an inode
-abbrev pub given_name : List ℕ × NameEntry → Option (List ℕ)
-given_name (n, Ino i) = Some n
-given_name (n, White) = None
-
 -- a name that gives a whiteout
 abbrev pub white_name : List ℕ × NameEntry → Option (List ℕ)
 white_name (n, Ino i) = None
 white_name (n, White) = Some n
-
--- the names that give an inode, in byte order
-abbrev pub given_names : Names → List (List ℕ)
-given_names names = filter_map given_name (entries names)
 
 -- the names that give a whiteout, in byte order
 abbrev pub white_names : Names → List (List ℕ)

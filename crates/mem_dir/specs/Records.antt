@@ -1,10 +1,11 @@
 -- Records of names in byte order.
 use Rattle.std.specs.Prelude.{ℕ, ◌≡◌, ◌<◌, ◌≤◌, ◌+◌, ◌-◌, Bool, true, false, List, [], ◌∷◌, ⊤, length, slice_index_or, All}
-use Rattle.std.specs.List.{flat_map, AllByRecursion}
+use Rattle.std.specs.List.{flat_map, list_any, AllByRecursion}
 use Rattle.std.specs.Ordering.{is_lt}
 use Rattle.std.specs.declared.cmp.Ordering.TheVariants.{Less}
 use Rattle.std.specs.FinMap as map
 use Rattle.vfs_tree.specs.Name.{name_cmp}
+use Rattle.vfs_tree.specs.Counts.{gives_node}
 use Rattle.vfs_tree.specs.Nodes.{Names}
 use Rattle.vfs_tree.specs.declared.node.NameEntry.{NameEntry}
 use Rattle.vfs_tree.specs.declared.node.NameEntry.TheVariants.{White}
@@ -28,6 +29,10 @@ name_at records at = (record_at records at).0
 -- the records of blocks, one block after another
 abbrev pub joined : List (List Record) → List Record
 joined blocks = flat_map (λ block. block) blocks
+
+-- whether some record gives an inode
+abbrev pub gives_some : List Record → Bool
+gives_some records = list_any (λ (r : Record). gives_node r.1) records
 
 -- the first name of the block at a place
 abbrev pub first_at : List (List Record) → ℕ → List ℕ

@@ -1,5 +1,5 @@
 ghost use Rattle.std.specs.Prelude.{ℕ, List, None, if◌then◌else◌, ◌≡◌, ◌==◌, ◌+◌, ◌-◌, ◌<◌, ◌≤◌, ◌++◌, ◌∷◌, [], true, false, length, insert, remove, set, vec_len, vec_capacity, Some, OnOk, IfOk, IfSome, IfNone};
-ghost use Rattle.mem_dir.specs.Records.{is_below, record_at, name_at, with_records};
+ghost use Rattle.mem_dir.specs.Records.{is_below, record_at, name_at, with_records, gives_some};
 ghost use Rattle.mem_dir.specs.Directory.{listed};
 ghost use Rattle.std.specs.List.{filter_map};
 ghost use Rattle.mem_dir.specs.declared.block.TheConstants.{MOST, HALF};
@@ -193,6 +193,21 @@ impl Block {
         ensures { self.new ≡ remove self.old at }
     {
         self.records.remove(at);
+    }
+
+    /// Takes the last record away and answers it. `None` comes exactly where there is none.
+    pub fn pop(&mut self) -> Option<(Name, NameEntry)>
+        ensures last { IfSome result (λ pair. self.old ≡ self.new ++ pair ∷ []) }
+        ensures none { IfNone result (self.old ≡ []) }
+    {
+        self.records.pop()
+    }
+
+    /// Whether some name gives an inode.
+    pub fn gives_some(&self) -> bool
+        ensures { result ≡ gives_some self.now }
+    {
+        self.records.iter().any(|record| record.1.is_given())
     }
 
     /// Puts a record at a place of a full block, and moves the records of the upper half to an empty block, without

@@ -1,8 +1,8 @@
-ghost use Rattle.std.specs.Prelude.{◌≡◌, ◌+◌, ◌<◌, ◌≤◌, ◌++◌, ◌∷◌, [], true, false, length, take, drop, suc, remove, insert, slice_index_or, vec_len, vec_capacity, Some, IfSome, IfOk, OnOk, OnErr};
+ghost use Rattle.std.specs.Prelude.{◌≡◌, ◌+◌, ◌<◌, ◌≤◌, ◌++◌, ◌∷◌, [], true, false, length, take, drop, suc, remove, insert, slice_index_or, vec_len, vec_capacity, Some, IfSome, IfNone, IfOk, OnOk, OnErr};
 ghost use Rattle.std.specs.FinMap as map;
-ghost use Rattle.std.specs.List.{filter_map};
+ghost use Rattle.std.specs.List.{filter_map, list_any};
 ghost use Rattle.vfs_tree.specs.Name.{name_cmp};
-ghost use Rattle.mem_dir.specs.Records.{is_below, joined, with_records, first_at, IsRising, AreFilled, IsPlace};
+ghost use Rattle.mem_dir.specs.Records.{is_below, joined, gives_some, with_records, first_at, IsRising, AreFilled, IsPlace};
 ghost use Rattle.mem_dir.specs.Directory.{listed};
 
 use crate::block::{Block, is_below};
@@ -118,6 +118,31 @@ pub fn remove(blocks: &mut Vec<Block>, place: Place)
     } else {
         blocks[place.block].remove(place.at);
     }
+}
+
+/// Takes the last record away and answers it. A block without records goes.
+pub fn pop_last(blocks: &mut Vec<Block>) -> Option<(Name, NameEntry)>
+    requires filled { AreFilled blocks.old.items }
+    ensures filled { AreFilled blocks.new.items }
+    ensures last { IfSome result (λ pair. joined blocks.old.items ≡ joined blocks.new.items ++ pair ∷ []) }
+    ensures none { IfNone result (blocks.old.items ≡ []) }
+    ensures unchanged { IfNone result (blocks.new.items ≡ []) }
+    ensures capacity { vec_capacity blocks.new ≡ vec_capacity blocks.old }
+    ensures len { vec_len blocks.new ≤ vec_len blocks.old }
+{
+    let last = blocks.len().checked_sub(1)?;
+    let record = blocks[last].pop();
+    if blocks[last].len() == 0 {
+        blocks.pop();
+    }
+    record
+}
+
+/// Whether some name gives an inode.
+pub fn gives_some(blocks: &[Block]) -> bool
+    ensures { result ≡ list_any gives_some blocks.now }
+{
+    blocks.iter().any(|block| block.gives_some())
 }
 
 /// The names that give a whiteout, or those that give an inode. The only fault is want of memory.

@@ -1,6 +1,10 @@
-ghost use Rattle.std.specs.Prelude.{◌≡◌, ◌+◌, ◌-◌, ◌^◌, ◌<◌, min, max, if◌then◌else◌, None, is_some, IfOk, OnOk, OnErr};
+ghost use Rattle.std.specs.Prelude.{◌≡◌, ◌+◌, ◌-◌, ◌^◌, ◌<◌, ◌++◌, ◌∷◌, [], min, max, if◌then◌else◌, Some, None, is_some, IfSome, IfNone, IfOk, OnOk, OnErr};
+ghost use Rattle.std.specs.List.{list_any};
 ghost use Rattle.std.specs.FinMap as map;
-ghost use Rattle.mem_dir.specs.Directory.{given_names, white_names};
+ghost use Rattle.std.specs.FinMap.{entries};
+ghost use Rattle.vfs_tree.specs.Counts.{gives_node};
+ghost use Rattle.vfs_tree.specs.Visible.{given_names};
+ghost use Rattle.mem_dir.specs.Directory.{white_names};
 
 use crate::block::Block;
 use crate::blocks;
@@ -12,7 +16,8 @@ use vfs_tree::{Name, NameEntry, NameMap};
 /// and how many records were read, `reads`.
 ///
 /// The records stand in byte order in blocks. A look-up, an insert and a removal cost logarithmic time in the names, and
-/// move the records of one block at most.
+/// move the records of one block at most. An insert that splits a block and a removal that empties one also shift the
+/// handles of the blocks behind it, a few words for each, at most once for every 32 names put in or taken away.
 #[derive(Debug, Drop)]
 pub struct Dir {
     blocks: Vec<Block>,
@@ -127,6 +132,20 @@ impl Dir {
         Some(entry)
     }
 
+    /// Takes the last name in byte order away, without memory, and answers it with what it gave. `None` comes exactly
+    /// where there is no name. The room stays.
+    pub fn pop_last(&mut self) -> Option<(Name, NameEntry)>
+        ensures last { IfSome result (λ pair. entries self.old.names ≡ entries self.new.names ++ pair ∷ []) }
+        ensures some { IfSome result (λ pair. map.get self.old.names pair.0 ≡ Some pair.1) }
+        ensures names { IfSome result (λ pair. self.new.names ≡ map.remove self.old.names pair.0) }
+        ensures none { IfNone result (self.old.names ≡ map.empty) }
+        ensures unchanged { IfNone result (self.new.names ≡ self.old.names) }
+        ensures spare { self.new.spare ≡ self.old.spare }
+        ensures reads { self.new.reads ≡ self.old.reads }
+    {
+        blocks::pop_last(&mut self.blocks)
+    }
+
     /// Takes all names away, without memory. The room stays.
     pub fn clear(&mut self)
         ensures names { self.new.names ≡ map.empty }
@@ -134,6 +153,13 @@ impl Dir {
         ensures reads { self.new.reads ≡ self.old.reads }
     {
         self.blocks.clear();
+    }
+
+    /// Whether some name gives an inode, without memory.
+    pub fn gives_some(&self) -> bool
+        ensures { result ≡ list_any gives_node (map.values self.now.names) }
+    {
+        blocks::gives_some(&self.blocks)
     }
 
     /// The names that give an inode, in byte order. The only fault is want of memory.

@@ -1,4 +1,7 @@
+ghost use Rattle.std.specs.Prelude.{◌<◌, ◌≤◌, IsTrue, vec_len};
+
 use super::*;
+use finite_maps::Duplicate;
 use std::alloc::Global;
 use std::test::Fail;
 use vfs_tree::{Name, NameEntry, NameMap};
@@ -30,12 +33,14 @@ fn each_call(rt: HostRuntime) -> Result<(), Fail> {
     dir.reserve(alloc)?;
     dir.insert(name_of(alloc, 5)?, NameEntry::White);
     assert_eq!(rt; dir.find(&name), Some(NameEntry::White));
+    assert!(rt; !dir.gives_some());
     assert_eq!(rt; dir.list(alloc)?.len(), 0);
     assert_eq!(rt; dir.list_white(alloc)?.as_slice().first(), Some(&name));
     dir.reserve(alloc)?;
     dir.insert(name_of(alloc, 5)?, NameEntry::Ino { ino: 2 });
     assert_eq!(rt; dir.list(alloc)?.as_slice().first(), Some(&name));
     assert_eq!(rt; dir.list_white(alloc)?.len(), 0);
+    assert!(rt; dir.gives_some());
     assert_eq!(rt; dir.remove(&name), Some(NameEntry::Ino { ino: 2 }));
     assert_eq!(rt; dir.find(&name), None);
     assert_eq!(rt; dir.reads(), 3);
@@ -104,5 +109,128 @@ fn a_thousand_names_in_three_orders(rt: HostRuntime) -> Result<(), Fail> {
         }
         assert_eq!(rt; dir.list(alloc)?.len(), 0);
     }
+    Ok(())
+}
+
+/// A directory's names in one vector, in byte order.
+#[derive(Drop)]
+struct PlainDir {
+    records: Vec<(Name, NameEntry)>,
+}
+
+impl PlainDir {
+    /// The place of the first name that is not below this one, or the number of records.
+    fn place(&self, name: &Name) -> usize
+        ensures { result ≤ vec_len self.now.records }
+    {
+        self.records
+            .iter()
+            .position(|record| *name <= record.0)
+            .unwrap_or(self.records.len())
+    }
+
+    /// Whether the name stands at a place.
+    fn is_at(&self, place: usize, name: &Name) -> bool
+        ensures { IsTrue result → place < vec_len self.now.records }
+    {
+        match self.records.get(place) {
+            Some(record) => record.0 == *name,
+            None => false,
+        }
+    }
+
+    fn insert(&mut self, name: Name, entry: NameEntry) -> Result<(), Fail> {
+        let place = self.place(&name);
+        if self.is_at(place, &name) {
+            self.records.remove(place);
+        }
+        self.records.insert(place, (name, entry))?;
+        Ok(())
+    }
+
+    fn remove(&mut self, name: &Name) -> Option<NameEntry> {
+        let place = self.place(name);
+        if self.is_at(place, name) {
+            Some(self.records.remove(place).1)
+        } else {
+            None
+        }
+    }
+
+    /// The names that give a whiteout, or those that give an inode.
+    fn list(&self, alloc: Global, white: bool) -> Result<Vec<Name>, Fail> {
+        let mut names = Vec::new(alloc);
+        for (name, entry) in self.records.iter() {
+            if (*entry == NameEntry::White) == white {
+                names.push(name.duplicate(alloc)?)?;
+            }
+        }
+        Ok(names)
+    }
+}
+
+/// Lets the name of that number give the entry of another number, in both forms.
+fn insert(
+    alloc: Global,
+    number: u32,
+    what: u32,
+    dir: &mut Dir,
+    plain: &mut PlainDir,
+) -> Result<(), Fail> {
+    dir.reserve(alloc)?;
+    dir.insert(name_of(alloc, number)?, entry_of(what));
+    plain.insert(name_of(alloc, number)?, entry_of(what))
+}
+
+/// One edit of both forms, by a number: a name that is new, one that was there from the start, a removal, or the last
+/// name. It answers whether both answer alike.
+fn edit(alloc: Global, number: u32, dir: &mut Dir, plain: &mut PlainDir) -> Result<bool, Fail> {
+    let which = number / 4 % 300 * 3;
+    match number % 4 {
+        0 => insert(alloc, which + 1, number, dir, plain)?,
+        1 => insert(alloc, which, number, dir, plain)?,
+        2 => {
+            let name = name_of(alloc, which)?;
+            return Ok(dir.remove(&name) == plain.remove(&name));
+        }
+        _ => return Ok(dir.pop_last() == plain.records.pop()),
+    }
+    Ok(true)
+}
+
+/// The next of a row of numbers that look mixed.
+fn mixed(number: u32) -> u32 {
+    number.wrapping_mul(1664525).wrapping_add(1013904223)
+}
+
+#[test]
+fn a_hundred_edits_in_blocks_and_in_one_vector(rt: HostRuntime) -> Result<(), Fail> {
+    let alloc = rt.alloc();
+    let mut dir = Dir::new(alloc);
+    let mut plain = PlainDir {
+        records: Vec::new(alloc),
+    };
+    for turn in 0..300 {
+        let turn: u32 = turn;
+        let number = turn * 617 % 300 * 3;
+        insert(alloc, number, number, &mut dir, &mut plain)?;
+    }
+    let mut number = 7;
+    for step in 0..100 {
+        number = mixed(number);
+        assert!(rt; edit(alloc, number / 4096, &mut dir, &mut plain)?, "{step}");
+        assert!(rt;
+            dir.list(alloc)?.as_slice() == plain.list(alloc, false)?.as_slice(),
+            "{step}"
+        );
+        assert!(rt;
+            dir.list_white(alloc)?.as_slice() == plain.list(alloc, true)?.as_slice(),
+            "{step}"
+        );
+    }
+    for _turn in 0..plain.records.len() {
+        assert!(rt; dir.pop_last() == plain.records.pop());
+    }
+    assert!(rt; dir.pop_last().is_none());
     Ok(())
 }

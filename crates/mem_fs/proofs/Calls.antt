@@ -1,7 +1,6 @@
 -- What a caller's conditions say of the nodes.
 use Rattle.std.proofs.Common.{◌≡◌, ℕ, Bool, true, false, List, zero, suc, refl, ap, sym, ◌∙◌, subst}
-use Rattle.std.proofs.Math.Dec.{eqb→eq}
-use Rattle.std.specs.Prelude.{Option, Some, None, option_map, option_and_then, T, IsSome, IfSome, ◌<◌, ◌||◌, ◌==◌}
+use Rattle.std.specs.Prelude.{Option, Some, None, option_map, option_and_then, IsSome, IfSome, IfNone, ◌<◌, ◌||◌, ◌==◌}
 use Rattle.std.specs.Prelude.{Result, Ok, Err, OnOk, OnErr}
 use Rattle.std.specs.Ordering.{nat_cmp, is_eq}
 use Rattle.std.specs.Cmp.{nat_cmp_total}
@@ -15,7 +14,8 @@ use Rattle.mem_fs.specs.declared.inode.Content.{Content}
 use Rattle.mem_fs.specs.NewNodes.{new_node, new_name}
 use Rattle.mem_fs.specs.Contents.{made_ready}
 use Rattle.mem_fs.proofs.Kept.{get-kept, kept-insert}
-use Rattle.vfs_tree.specs.Nodes.{entry_in, is_given, is_white, is_dir_node}
+use Rattle.vfs_tree.specs.Nodes.{Names, entry_in, is_given, is_white, is_dir_node}
+use Rattle.vfs_tree.specs.Visible.{names_in}
 use Rattle.vfs_tree.specs.StoreEdits.{entry_of}
 use Rattle.vfs_tree.specs.Views.{is_named_in, is_linked_in, facts_in, dir_in}
 use Rattle.vfs_tree.specs.declared.node.Node.{Node}
@@ -35,7 +35,6 @@ use Rattle.mem_fs.proofs.Seen.{like_ready, like_same}
 use Rattle.mem_fs.proofs.Looks.{looked, find_found}
 use Rattle.vfs_tree.proofs.CountLaws.{named_times}
 use Rattle.mem_fs.proofs.NameLaws.{IsBareAt, no_none, same_some}
-use Rattle.mem_fs.proofs.KeptLaws.{IsLinked}
 
 no_clash : false ≡ true → ⊥
 no_clash e = let clash : false ≡ true = e in cc
@@ -43,14 +42,6 @@ no_clash e = let clash : false ≡ true = e in cc
 -- a node's count is that of the store
 pub links_times : (m : Inodes) (next : ℕ) (v : FileSystem) (i : ℕ) → seen m next ≡ v → IsKept m next → is_named_in v.store i ≡ above_zero (links_of (get m i))
 links_times m next v i is kept = named_times v.store i ∙ ap (λ (x : FileSystem). above_zero (times x.store.nodes i)) (sym is) ∙ ap above_zero (sym (kept.counts i))
-
-linked_case : (d l : ℕ) (b : Bool) → (d == 1) ≡ b → (b || above_zero l) ≡ true → (d ≡ 1 → ⊥) → l ≡ 0 → ⊥
-linked_case d l true is linked root none = root (eqb→eq d 1 (subst T (sym is) tt))
-linked_case d l false is linked root none = no_clash (sym (ap above_zero none) ∙ linked)
-
--- a directory that is linked
-pub linked_of : (m : Inodes) (next : ℕ) (v : FileSystem) (d : ℕ) → seen m next ≡ v → IsKept m next → is_linked_in v.store d ≡ true → IsLinked m d
-linked_of m next v d is kept linked = linked_case d (links_of (get m d)) (d == 1) refl (ap (λ b. (d == 1) || b) (sym (links_times m next v d is kept)) ∙ linked)
 
 pub dir_of : (m : Inodes) (next : ℕ) (v : FileSystem) (d : ℕ) → seen m next ≡ v → is_dir_node (get v.store.nodes d) ≡ true → is_dir_node (option_map node_of (get m d)) ≡ true
 dir_of m next v d is dir = ap is_dir_node (sym (looked m next v d (get m d) is refl)) ∙ dir
@@ -85,6 +76,16 @@ no_names (suc l) h = absurd (no_clash (sym h))
 -- a node that no name gives
 pub unnamed_of : (m : Inodes) (next : ℕ) (v : FileSystem) (i : ℕ) → seen m next ≡ v → IsKept m next → is_named_in v.store i ≡ false → links_of (get m i) ≡ 0
 unnamed_of m next v i is kept none = no_names _ (sym (links_times m next v i is kept) ∙ none)
+
+empty_entries : (o : Option Node) → names_in o ≡ empty → (n : List ℕ) → is_given (entry_in n o) ≡ false
+empty_entries (Some (Dir parent opaque names)) none n = ap (λ (x : Names). is_given (get x n)) none ∙ ap is_given (get-empty name_cmp n)
+empty_entries (Some (File bytes)) none n = refl
+empty_entries (Some (Link target)) none n = refl
+empty_entries None none n = refl
+
+-- a node without names has none that give a node
+pub bare_by_names : (m : Inodes) (i : ℕ) → names_in (option_map node_of (get m i)) ≡ empty → (n : List ℕ) → is_given (entry_in n (option_map node_of (get m i))) ≡ false
+bare_by_names m i none n = empty_entries (option_map node_of (get m i)) none n
 
 some_there : (o : Option Inode) → IsSome (option_map node_of o) → IsSome o
 some_there (Some x) h = h
@@ -208,3 +209,12 @@ either (Err e) p q f g = g q
 pub on_ok : {X E : Type 0} {P Z : Type 0} (r : Result X E) → OnOk r P → (P → Z) → OnOk r Z
 on_ok (Ok x) p f = f p
 on_ok (Err e) p f = tt
+
+-- what follows of an option either way
+pub on_some : {X : Type 0} {P Q : X → Type 0} (r : Option X) → IfSome r P → ((x : X) → P x → Q x) → IfSome r Q
+on_some (Some x) p f = f x p
+on_some None p f = tt
+
+pub on_none : {X P Q : Type 0} (r : Option X) → IfNone r P → (P → Q) → IfNone r Q
+on_none (Some x) p f = tt
+on_none None p f = f p

@@ -1,31 +1,34 @@
 -- What look-ups of the nodes tell of what contracts see, and the edits of files.
-use Rattle.std.proofs.Common.{◌≡◌, ℕ, ◌+◌, ◌-◌, List, [], ◌++◌, length, take, drop, refl, ap, sym, ◌∙◌, arith}
-use Rattle.std.specs.Prelude.{Option, Some, option_map, option_and_then, ◌^◌, min, max, IsSome, is_some}
+use Rattle.std.proofs.Common.{◌≡◌, ℕ, ◌+◌, ◌-◌, Bool, true, false, cond, List, [], ◌∷◌, ◌++◌, length-append, length, take, drop, refl, ap, sym, ◌∙◌, arith}
+use Rattle.std.specs.Prelude.{Option, Some, None, option_map, option_and_then, ◌^◌, min, max, IsSome, is_some}
 use Rattle.std.specs.List.{filter_map}
-use Rattle.std.specs.Ordering.{nat_cmp}
-use Rattle.std.specs.FinMap.{FinMap, get, insert, remove, empty}
+use Rattle.std.specs.Ordering.{nat_cmp, eq_by_cmp, is_eq}
+use Rattle.std.specs.FinMap.{FinMap, get, insert, remove, empty, entries, get-insert, get-remove, same_map}
 use Rattle.std.specs.Cmp.{nat_cmp_total}
+use Rattle.std.proofs.lemmas.Cmp.{tied_itself}
 use Rattle.std.proofs.lemmas.Grind.{common_steps}
 use Rattle.std.proofs.lemmas.Map.Lookups.{exact_unsigned}
 use Rattle.finite_maps.proofs.EntryLaws.{entries-empty, insert_same}
-use Rattle.mem_dir.specs.Directory.{given_name, given_names, white_name, white_names}
+use Rattle.mem_dir.specs.Directory.{white_name, white_names}
 use Rattle.vfs_tree.specs.Name.{name_cmp}
 use Rattle.vfs_tree.specs.Nodes.{entry_in}
 use Rattle.vfs_tree.specs.StoreEdits.{entry_of}
+use Rattle.vfs_tree.specs.Visible.{given_name, given_names, names_in}
 use Rattle.vfs_tree.specs.Bytes.{resize_bytes, write_bytes}
 use Rattle.vfs_tree.specs.FileEdits.{with_bytes}
 use Rattle.vfs_tree.specs.declared.node.Node.{Node}
+use Rattle.vfs_tree.specs.declared.node.NameEntry.{NameEntry}
 use Rattle.mem_fs.specs.declared.inode.Content.{Content}
 use Rattle.mem_fs.specs.declared.inode.Content.TheVariants as held
 use Rattle.mem_fs.specs.declared.inode.Inode.{Inode}
-use Rattle.mem_fs.specs.Contents.{shown, reads_of, reserved_of, name_of, counted_in, written_in, cut_in, reserved_to}
-use Rattle.mem_fs.specs.Inodes.{Inodes, edited, kept, node_of, nodes_of, reads_at, reserved_at, with_content}
+use Rattle.mem_fs.specs.Contents.{shown, reads_of, reserved_of, name_of, cleared_in, counted_in, written_in, cut_in, reserved_to}
+use Rattle.mem_fs.specs.Inodes.{Inodes, name_count, edited, kept, node_of, nodes_of, reads_at, reserved_at, with_content, cleared_at, given_lost}
 use Rattle.mem_fs.specs.FileSystem.{FileSystem, seen, without}
 use Rattle.vfs_tree.specs.Counts.{times}
 use Rattle.mem_fs.specs.Named.{parent_in}
 use Rattle.mem_fs.specs.Invariant.{IsKept}
-use Rattle.mem_fs.proofs.Kept.{get-kept, kept-edited, kept-same, kept-remove}
-use Rattle.mem_fs.proofs.Seen.{get-nodes, nodes-edited, shows-write, shows-cut, entry_seen}
+use Rattle.mem_fs.proofs.Kept.{get-edited, get-kept, kept-edited, kept-same, kept-remove}
+use Rattle.mem_fs.proofs.Seen.{get-nodes, nodes-edited, shows-write, shows-cut, entry_seen, seen-lost}
 use Rattle.vfs_tree.proofs.CountLaws.{times_bytes}
 use Rattle.mem_fs.proofs.KeptLaws.{kept-quiet}
 
@@ -55,6 +58,16 @@ no_white = ap (filter_map white_name) (entries-empty name_cmp)
 pub left_same : (m n : Inodes) (k : ℕ) (v w : Inode) → Some v ≡ get m k → (IsSome (get m k) → n ≡ insert m k w) → w ≡ v → n ≡ m
 left_same m n k v w was put same =
     put (ap is_some (sym was)) ∙ insert_same nat_cmp_total exact_unsigned m k w (sym was ∙ ap Some (sym same))
+
+-- a node of which a name was taken away
+pub left_count : (m n : Inodes) (k : ℕ) (v w : Inode) (e : List ℕ × NameEntry) → Some v ≡ get m k → (IsSome (get m k) → n ≡ insert m k w) → entries (names_in (Some (node_of v))) ≡ entries (names_in (Some (node_of w))) ++ e ∷ []
+    → name_count (get m k) ≡ name_count (get n k) + 1
+left_count m n k v w e was put last =
+    let more = ap length last ∙ length-append (entries (names_in (Some (node_of w)))) (e ∷ []) in
+    let old : name_count (get m k) ≡ name_count (Some v) = ap name_count (sym was) in
+    let new : name_count (get n k) ≡ name_count (Some w) = ap (λ (x : Inodes). name_count (get x k)) (put (ap is_some (sym was)))
+    ∙ ap name_count (get-insert nat_cmp_total m k w k ∙ ap (λ r. cond (is_eq r) (Some w) (get m k)) (tied_itself nat_cmp_total k)) in
+    omega (arith, more, old, new)
 
 -- ---- a counted look-up
 
@@ -186,12 +199,29 @@ kept-cut len m n next k = kept-quiet (cut_in len) m n next k (entry_cut len) (pa
 
 -- ---- a node that is forgotten
 
-pub seen-forgotten : (m n : Inodes) (next k : ℕ) (v : FileSystem) → seen m next ≡ v → n ≡ remove m k → seen n next ≡ without v k
+-- a change of a node that goes is not seen
+remove_edited : (g : Inode → Inode) (m : Inodes) (k : ℕ) → remove (edited g m k) k ≡ remove m k
+remove_edited g m k = same_map nat_cmp_total exact_unsigned _ _ (λ q.
+    get-remove nat_cmp_total (edited g m k) k q ∙ ap (cond (eq_by_cmp nat_cmp q k) None) (get-edited g m k q) ∙ by_case (eq_by_cmp nat_cmp q k) (get m q) ∙ sym (get-remove nat_cmp_total m k q))
+  where
+    by_case : (b : Bool) (o : Option Inode) → cond b None (cond b (option_map g o) o) ≡ cond b None o
+    by_case true o = refl
+    by_case false o = refl
+
+rest_seen : (m : Inodes) (next k : ℕ) → seen (remove m k) next ≡ without (seen m next) k
+rest_seen m next k = λ i. record {
+  store = record { nodes = kept-remove (λ (x : Inode). Some (node_of x)) m k i; next = next };
+  reads = kept-remove (λ (x : Inode). reads_of x.content) m k i;
+  reserved = kept-remove (λ (x : Inode). reserved_of x.content) m k i;
+}
+
+-- a name of it that is taken away is not seen either
+pub rest-lost : (m n p : Inodes) (next k : ℕ) (name : List ℕ) (e : NameEntry) → n ≡ cleared_at m k name → p ≡ given_lost n e → without (seen p next) k ≡ without (seen m next) k
+rest-lost m n p next k name e cleared is =
+    ap (λ (x : Inodes). without (seen x next) k) is ∙ ap (λ (x : FileSystem). without x k) (seen-lost n next e)
+    ∙ ap (λ (x : Inodes). without (seen x next) k) cleared ∙ sym (rest_seen (cleared_at m k name) next k)
+    ∙ ap (λ (x : Inodes). seen x next) (remove_edited (with_content (cleared_in name)) m k) ∙ rest_seen m next k
+
+pub seen-forgotten : (m n : Inodes) (next k : ℕ) (v : FileSystem) → without (seen m next) k ≡ without v k → n ≡ remove m k → seen n next ≡ without v k
 seen-forgotten m n next k v is gone =
-    ap (λ (x : Inodes). seen x next) gone
-    ∙ (λ i. record {
-      store = record { nodes = kept-remove (λ (x : Inode). Some (node_of x)) m k i; next = next };
-      reads = kept-remove (λ (x : Inode). reads_of x.content) m k i;
-      reserved = kept-remove (λ (x : Inode). reserved_of x.content) m k i;
-    })
-    ∙ ap (λ (x : FileSystem). without x k) is
+    ap (λ (x : Inodes). seen x next) gone ∙ rest_seen m next k ∙ is

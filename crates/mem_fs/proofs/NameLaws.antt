@@ -18,11 +18,11 @@ use Rattle.vfs_tree.specs.declared.node.NameEntry.TheVariants.{Ino, White}
 use Rattle.mem_fs.specs.declared.inode.Content.{Content}
 use Rattle.mem_fs.specs.declared.inode.Content.TheVariants as held
 use Rattle.mem_fs.specs.declared.inode.Inode.{Inode}
-use Rattle.mem_fs.specs.Contents.{shown, name_of, put_in, cleared_in, placed, bared}
-use Rattle.mem_fs.specs.Inodes.{Inodes, edited, node_of, own_name, with_content, let_go, gained, put_at, cleared_at, given_gone, dropped_at, given_to}
+use Rattle.mem_fs.specs.Contents.{shown, name_of, put_in, cleared_in, placed, bared, nameless}
+use Rattle.mem_fs.specs.Inodes.{Inodes, edited, node_of, own_name, with_content, let_go, lost, gained, put_at, cleared_at, given_lost, given_gone, dropped_at, given_to}
 use Rattle.mem_fs.specs.Named.{parent_in, AreNamed}
 use Rattle.mem_fs.proofs.Kept.{same_number, get-edited}
-use Rattle.mem_fs.proofs.Seen.{look_same}
+use Rattle.mem_fs.proofs.Seen.{look_same, shown_nameless}
 
 abbrev pub entry : List ℕ → Option Inode → Option NameEntry
 entry n o = entry_in n (option_map node_of o)
@@ -283,6 +283,38 @@ gone_keeps m (Some (Ino j)) q i x bare is = number_case q j
 gone_keeps m (Some White) q i x bare is = is
 gone_keeps m None q i x bare is = is
 
+-- ---- what a lost name leaves
+
+entry_nameless : (x : List ℕ) (c : Content) → entry_in x (Some (shown (nameless c))) ≡ entry_in x (Some (shown c))
+entry_nameless x c = ap (λ y. entry_in x (Some y)) (shown_nameless c)
+
+name_nameless : (c : Content) → name_of (nameless c) ≡ None
+name_nameless (held.Dir parent opaque name names) = refl
+name_nameless (held.File bytes) = refl
+name_nameless (held.Link target) = refl
+
+lost_entry : (m : Inodes) (e : NameEntry) (x : List ℕ) (q : ℕ) → entry x (get (given_lost m e) q) ≡ entry x (get m q)
+lost_entry m (Ino j) x q = look_same (entry x) lost (λ y. entry_nameless x y.content) m j q
+lost_entry m White x q = refl
+
+parents_lost : (m : Inodes) (e : NameEntry) (q : ℕ) → parent (get (given_lost m e) q) ≡ parent (get m q)
+parents_lost m (Ino j) q = look_same parent lost (λ y. ap (λ x. parent_in (Some x)) (shown_nameless y.content)) m j q
+parents_lost m White q = refl
+
+lost_name : (o : Option Inode) → own_name (option_map lost o) ≡ None
+lost_name (Some x) = name_nameless x.content
+lost_name None = refl
+
+own_lost : (m : Inodes) (e : NameEntry) (i : ℕ) → Some e ≡ Some (Ino i) → own_name (get (given_lost m e) i) ≡ None
+own_lost m (Ino j) i e =
+    let same : i ≡ j = sym (same_ino j i e) in
+    ap (λ k. own_name (get (edited lost m j) k)) same ∙ ap own_name (edit_here lost m j) ∙ lost_name (get m j)
+own_lost m White i e = absurd (no_white i e)
+
+own_unlost : (m : Inodes) (e : NameEntry) (i : ℕ) → (Some e ≡ Some (Ino i) → ⊥) → own_name (get (given_lost m e) i) ≡ own_name (get m i)
+own_unlost m (Ino j) i apart = ap own_name (edit_other lost m j i (λ same. apart (ap (λ k. Some (Ino k)) (sym same))))
+own_unlost m White i apart = refl
+
 -- ---- whole edits
 
 -- an edit that leaves what is given, the parents and the names that are kept
@@ -319,6 +351,34 @@ named_removed m g w d name named given bare = record {
     back q i x is = spot_case q d x name
         (λ same_dir same_name. absurd (not_both _ i (dropped_here w (given_gone m g) d name) ((λ k. entry (sym same_name k) (get (dropped_at w (given_gone m g) d name) (sym same_dir k))) ∙ is)))
         (λ apart. (gone_back m g q i x (sym (dropped_other w (given_gone m g) d name q x apart) ∙ is), apart))
+
+-- a name of a directory that is to be dropped
+pub named_lost : (m : Inodes) (e : NameEntry) (d : ℕ) (name : List ℕ) → AreNamed m → Some e ≡ entry name (get m d) → AreNamed (given_lost (cleared_at m d name) e)
+named_lost m e d name named given = record {
+  once = λ q i p x at is.
+      let old = back q i x is in
+      let was = named.once q i p x (sym (parents i) ∙ at) old.0 in
+      let other : Some e ≡ Some (Ino i) → ⊥ = λ same.
+      let first = named.once d i p name (sym (parents i) ∙ at) (sym given ∙ same) in
+      old.1 (was.0 ∙ sym first.0) (same_some x name (sym was.1 ∙ first.1)) in
+      (was.0, own_unlost (cleared_at m d name) e i other ∙ names_dropped false m d name i ∙ was.1);
+  stands = λ i p x at is.
+      given_case (Some e) i
+      (λ same. absurd (no_none x (sym (own_lost (cleared_at m d name) e i same) ∙ is)))
+      (λ other.
+      let there = named.stands i p x (sym (parents i) ∙ at) (sym (own_unlost (cleared_at m d name) e i other ∙ names_dropped false m d name i) ∙ is) in
+      lost_entry (cleared_at m d name) e x p ∙ dropped_other false m d name p x (λ same_dir same_name. other (given ∙ (λ k. entry (sym same_name k) (get m (sym same_dir k))) ∙ there)) ∙ there);
+}
+  where
+    parents : (i : ℕ) → parent (get (given_lost (cleared_at m d name) e) i) ≡ parent (get m i)
+    parents i = parents_lost (cleared_at m d name) e i ∙ parents_dropped false m d name i
+
+    back : (q i : ℕ) (x : List ℕ) → entry x (get (given_lost (cleared_at m d name) e) q) ≡ Some (Ino i) → (entry x (get m q) ≡ Some (Ino i)) × (q ≡ d → x ≡ name → ⊥)
+    back q i x is =
+        let before : entry x (get (cleared_at m d name) q) ≡ Some (Ino i) = sym (lost_entry (cleared_at m d name) e x q) ∙ is in
+        spot_case q d x name
+        (λ same_dir same_name. absurd (not_both _ i (dropped_here false m d name) ((λ k. entry (sym same_name k) (get (cleared_at m d name) (sym same_dir k))) ∙ before)))
+        (λ apart. (sym (dropped_other false m d name q x apart) ∙ before, apart))
 
 -- a whiteout that goes
 pub named_cleared : (m : Inodes) (d : ℕ) (name : List ℕ) → AreNamed m → is_given (entry name (get m d)) ≡ false → AreNamed (cleared_at m d name)

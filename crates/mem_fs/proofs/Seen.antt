@@ -3,7 +3,7 @@ use Rattle.std.proofs.Common.{◌≡◌, ℕ, Bool, true, false, cond, List, ref
 use Rattle.std.specs.Prelude.{Option, Some, None, option_map, option_and_then, ◌+◌, ◌||◌, is_some}
 use Rattle.std.specs.Ordering.{nat_cmp, eq_by_cmp}
 use Rattle.std.specs.FinMap.{FinMap, get, insert, remove, empty}
-use Rattle.vfs_tree.specs.Nodes.{is_white, is_given, entry_in}
+use Rattle.vfs_tree.specs.Nodes.{is_white, entry_in}
 use Rattle.vfs_tree.specs.Edits.{with_names, with_node, with_entry, made}
 use Rattle.vfs_tree.specs.StoreEdits.{entry_of, set_entry, emptied, drop_entry, removed, moved, renamed_to, renamed}
 use Rattle.vfs_tree.specs.Bytes.{resize_bytes, write_bytes}
@@ -14,8 +14,8 @@ use Rattle.vfs_tree.specs.declared.node.NameEntry.TheVariants.{Ino, White}
 use Rattle.mem_fs.specs.declared.inode.Content.{Content}
 use Rattle.mem_fs.specs.declared.inode.Content.TheVariants as held
 use Rattle.mem_fs.specs.declared.inode.Inode.{Inode}
-use Rattle.mem_fs.specs.Contents.{shown, reads_of, reserved_of, name_of, put_in, cleared_in, made_ready, bared, placed, written_in, cut_in}
-use Rattle.mem_fs.specs.Inodes.{Inodes, with_value, edited, with_new, kept, node_of, nodes_of, store_of, links_of, own_name, with_content, let_go, gained, put_at, given_gone, dropped_at, given_to}
+use Rattle.mem_fs.specs.Contents.{shown, reads_of, reserved_of, name_of, put_in, cleared_in, made_ready, bared, nameless, placed, written_in, cut_in}
+use Rattle.mem_fs.specs.Inodes.{Inodes, with_value, edited, with_new, kept, node_of, nodes_of, store_of, links_of, own_name, with_content, let_go, lost, gained, put_at, given_lost, given_gone, dropped_at, given_to}
 use Rattle.mem_fs.specs.FileSystem.{FileSystem, seen, with_store, with_edit}
 use Rattle.vfs_tree.specs.Counts.{times}
 use Rattle.mem_fs.specs.Named.{parent_in}
@@ -113,6 +113,21 @@ bared_reserved (held.Link target) = refl
 pub shows-let_go : Shows let_go (with_names (λ names. empty))
 shows-let_go = record { node = λ x. bared_node x.content; reads = λ x. bared_reads x.content; reserved = λ x. bared_reserved x.content }
 
+pub shown_nameless : (c : Content) → shown (nameless c) ≡ shown c
+shown_nameless (held.Dir parent opaque name names) = refl
+shown_nameless (held.File bytes) = refl
+shown_nameless (held.Link target) = refl
+
+reads_nameless : (c : Content) → reads_of (nameless c) ≡ reads_of c
+reads_nameless (held.Dir parent opaque name names) = refl
+reads_nameless (held.File bytes) = refl
+reads_nameless (held.Link target) = refl
+
+reserved_nameless : (c : Content) → reserved_of (nameless c) ≡ reserved_of c
+reserved_nameless (held.Dir parent opaque name names) = refl
+reserved_nameless (held.File bytes) = refl
+reserved_nameless (held.Link target) = refl
+
 pub shows-place : (to : ℕ) (own : List ℕ) (hides : Bool) → Shows (with_content (placed to own hides)) (moved to hides)
 shows-place to own hides = content_shows (placed to own hides) (moved to hides) node reads reserved
   where
@@ -193,6 +208,11 @@ seen_same : (g : Inode → Inode) (m : Inodes) (next k : ℕ) → ((x : Inode) �
     → seen (edited g m k) next ≡ seen m next
 seen_same g m next k n r s = build next _ _ _ _ _ _ (kept-same (λ (x : Inode). Some (node_of x)) g m k (λ x. ap Some (n x)))
     (kept-same (λ (x : Inode). reads_of x.content) g m k r) (kept-same (λ (x : Inode). reserved_of x.content) g m k s)
+
+-- nodes that lose a name are seen alike
+pub seen-lost : (m : Inodes) (next : ℕ) (e : NameEntry) → seen (given_lost m e) next ≡ seen m next
+seen-lost m next (Ino i) = seen_same lost m next i (λ x. shown_nameless x.content) (λ x. reads_nameless x.content) (λ x. reserved_nameless x.content)
+seen-lost m next White = refl
 
 -- what a function that an edit leaves says of each node
 pub look_same : {B : Type 0} (f : Option Inode → B) (g : Inode → Inode) → ((x : Inode) → f (Some (g x)) ≡ f (Some x)) → (m : Inodes) (k q : ℕ) → f (get (edited g m k) q) ≡ f (get m q)
@@ -300,9 +320,6 @@ pub kept-like : (m n : Inodes) (next : ℕ) → IsLike m n → IsKept m next →
 kept-like m n next like kept = record {
   below = λ i some. kept.below i (sym (like.there i) ∙ some);
   counts = λ i. like.links i ∙ kept.counts i ∙ ap (λ (x : FileSystem). times x.store.nodes i) (sym (like.seen next));
-  bare = λ i root zero name.
-      ap (λ o. is_given (entry_in name o)) (sym (get-nodes n i) ∙ ap (λ (x : FileSystem). get x.store.nodes i) (like.seen next) ∙ get-nodes m i)
-      ∙ kept.bare i root (sym (like.links i) ∙ zero) name;
   named = record {
     once = λ d i p name at is.
         let was = kept.named.once d i p name (sym (ap parent_in (node i)) ∙ at) (sym (ap (entry_in name) (node d)) ∙ is) in

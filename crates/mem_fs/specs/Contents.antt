@@ -92,6 +92,12 @@ bared (held.Dir parent opaque name names) = held.Dir parent opaque None (record 
 bared (held.File bytes) = held.File bytes
 bared (held.Link target) = held.Link target
 
+-- a directory for which its parent has no name any more
+abbrev pub nameless : Content → Content
+nameless (held.Dir parent opaque name names) = held.Dir parent opaque None names
+nameless (held.File bytes) = held.File bytes
+nameless (held.Link target) = held.Link target
+
 -- a directory gets its new parent and its name there, and becomes opaque where that is said
 abbrev pub placed : ℕ → List ℕ → Bool → Content → Content
 placed to own hides (held.Dir parent opaque name names) = held.Dir to (opaque || hides) (Some own) names

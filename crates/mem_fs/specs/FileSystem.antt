@@ -1,10 +1,9 @@
 -- What contracts see of a memory file system.
-use Rattle.std.specs.Prelude.{ℕ, ◌≡◌, ⊤, Bool, true, false, List, Option, Some, None, [], refl}
+use Rattle.std.specs.Prelude.{ℕ, ◌≡◌, ⊤, Bool, false, List, Option, Some, None, [], refl}
 use Rattle.std.specs.Ordering.{nat_cmp}
-use Rattle.std.specs.FinMap.{FinMap, get, remove, code}
+use Rattle.std.specs.FinMap.{FinMap, remove, code}
 use Rattle.std.specs.Coded.{Coded, code_by, coded×, coded_ℕ}
-use Rattle.vfs_tree.specs.Nodes.{is_given, is_dir_node}
-use Rattle.vfs_tree.specs.Views.{is_linked_in}
+use Rattle.vfs_tree.specs.Nodes.{is_given}
 use Rattle.vfs_tree.specs.StoreEdits.{entry_of, with_node_at}
 use Rattle.vfs_tree.specs.contracts.node.Node as node
 use Rattle.vfs_tree.specs.declared.node.Node.{Node}
@@ -59,11 +58,6 @@ facts_by linked (File bytes) = None
 facts_by linked (Link target) = None
 
 -- ---- what the calls on names ask for
-
--- a directory that is the root or that some name gives
-pub record IsLinkedDir (t : Store) (d : ℕ) : Type 0 where
-  pub dir : is_dir_node (get t.nodes d) ≡ true
-  pub linked : is_linked_in t d ≡ true
 
 -- what an entry gives has no names that give an inode
 abbrev pub GivesBare : Store → Option NameEntry → Type 0

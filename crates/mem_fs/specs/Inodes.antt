@@ -1,15 +1,16 @@
 -- The nodes of a memory file system by their numbers, what contracts see of them, and their edits.
-use Rattle.std.specs.Prelude.{ℕ, ◌+◌, ◌-◌, Bool, true, false, List, Option, Some, None, option_map}
+use Rattle.std.specs.Prelude.{ℕ, ◌+◌, ◌-◌, Bool, true, false, List, Option, Some, None, option_map, length}
 use Rattle.std.specs.List.{filter_map}
 use Rattle.std.specs.Ordering.{nat_cmp}
 use Rattle.std.specs.FinMap.{FinMap, get, insert, entries, from_entries}
+use Rattle.vfs_tree.specs.Visible.{names_in}
 use Rattle.vfs_tree.specs.declared.node.Node.{Node}
 use Rattle.vfs_tree.specs.declared.node.NameEntry.{NameEntry}
 use Rattle.vfs_tree.specs.declared.node.NameEntry.TheVariants.{Ino, White}
 use Rattle.vfs_tree.specs.declared.node.Store.{Store}
 use Rattle.mem_fs.specs.declared.inode.Content.{Content}
 use Rattle.mem_fs.specs.declared.inode.Inode.{Inode}
-use Rattle.mem_fs.specs.Contents.{shown, reads_of, reserved_of, name_of, put_in, cleared_in, placed, bared}
+use Rattle.mem_fs.specs.Contents.{shown, reads_of, reserved_of, name_of, put_in, cleared_in, placed, bared, nameless}
 
 -- ---- maps
 
@@ -63,6 +64,10 @@ abbrev pub links_of : Option Inode → ℕ
 links_of (Some x) = x.links
 links_of None = 0
 
+-- how many names a directory has
+abbrev pub name_count : Option Inode → ℕ
+name_count o = length (entries (names_in (option_map node_of o)))
+
 -- the name that its parent has for a directory
 abbrev pub own_name : Option Inode → Option (List ℕ)
 own_name (Some x) = name_of x.content
@@ -77,6 +82,10 @@ with_content f x = record { links = x.links; content = f x.content }
 -- a node that one name fewer gives; a directory loses its names
 abbrev pub let_go : Inode → Inode
 let_go x = record { links = x.links - 1; content = bared x.content }
+
+-- a node that one name fewer gives, as that name's directory is dropped; a directory keeps its names
+abbrev pub lost : Inode → Inode
+lost x = record { links = x.links - 1; content = nameless x.content }
 
 -- a node that one name more gives
 abbrev pub gained : Inode → Inode
@@ -95,6 +104,11 @@ abbrev pub given_gone : Inodes → Option NameEntry → Inodes
 given_gone m (Some (Ino i)) = edited let_go m i
 given_gone m (Some White) = m
 given_gone m None = m
+
+-- the node that an entry gives is lost
+abbrev pub given_lost : Inodes → NameEntry → Inodes
+given_lost m (Ino i) = edited lost m i
+given_lost m White = m
 
 -- a name is dropped: the entry goes, or becomes a whiteout
 abbrev pub dropped_at : Bool → Inodes → ℕ → List ℕ → Inodes

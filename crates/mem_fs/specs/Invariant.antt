@@ -1,15 +1,10 @@
 -- What holds of the nodes between calls.
-use Rattle.std.specs.Prelude.{ℕ, ◌≡◌, ◌<◌, false, IsSome, is_some, option_map, List}
+use Rattle.std.specs.Prelude.{ℕ, ◌≡◌, ◌<◌, IsSome, is_some}
 use Rattle.std.specs.FinMap.{get}
-use Rattle.vfs_tree.specs.Nodes.{entry_in, is_given}
 use Rattle.vfs_tree.specs.Counts.{times}
-use Rattle.mem_fs.specs.Inodes.{Inodes, node_of, nodes_of, links_of, own_name}
+use Rattle.mem_fs.specs.Inodes.{Inodes, nodes_of, links_of, own_name}
 use Rattle.mem_fs.specs.FileSystem.{seen}
 use Rattle.mem_fs.specs.Named.{AreNamed}
-
--- a node that no name gives has no names that give one, but for the root
-abbrev pub AreBare : Inodes → Type 0
-AreBare m = (i : ℕ) → (i ≡ 1 → ⊥) → links_of (get m i) ≡ 0 → (n : List ℕ) → is_given (entry_in n (option_map node_of (get m i))) ≡ false
 
 -- what holds of every memory file system
 pub record IsKept (m : Inodes) (next : ℕ) : Type 0 where
@@ -17,8 +12,6 @@ pub record IsKept (m : Inodes) (next : ℕ) : Type 0 where
   pub below : (i : ℕ) → IsSome (get m i) → i < next
   -- each node keeps how many names give it; no name gives a number that has no node
   pub counts : (i : ℕ) → links_of (get m i) ≡ times (nodes_of m) i
-  -- a node that no name gives has no names that give one
-  pub bare : AreBare m
   -- a directory keeps the name that its parent has for it
   pub named : AreNamed m
 

@@ -1,5 +1,5 @@
 // Each call on names, with the checks that a caller makes before it. A check that fails is answered as an error.
-use crate::checks::{gives_bare, is_linked_dir, is_no_dir};
+use crate::checks::{gives_bare, is_dir, is_no_dir};
 use crate::entries::{is_given, is_white};
 use crate::{MemFs, NewNode};
 use std::alloc::{AllocError, Global};
@@ -19,7 +19,7 @@ pub fn make(
     if !fs.has_number() {
         return Err(AllocError);
     }
-    if !is_linked_dir(fs, dir) {
+    if !is_dir(fs, dir) {
         return Err(AllocError);
     }
     fs.make(alloc, dir, name, node)
@@ -34,10 +34,10 @@ pub fn remove(
     white: bool,
 ) -> Result<(), AllocError> {
     let entry = fs.find(dir, name);
-    if !gives_bare(alloc, fs, entry)? {
+    if !gives_bare(fs, entry) {
         return Err(AllocError);
     }
-    if !is_linked_dir(fs, dir) {
+    if !is_dir(fs, dir) {
         return Err(AllocError);
     }
     fs.remove(alloc, dir, name, white)
@@ -61,13 +61,13 @@ pub fn rename(
     if target == given {
         return Err(AllocError);
     }
-    if !gives_bare(alloc, fs, target)? {
+    if !gives_bare(fs, target) {
         return Err(AllocError);
     }
-    if !is_linked_dir(fs, from) {
+    if !is_dir(fs, from) {
         return Err(AllocError);
     }
-    if !is_linked_dir(fs, to) {
+    if !is_dir(fs, to) {
         return Err(AllocError);
     }
     fs.rename(alloc, from, old, to, new, white, false)
@@ -87,7 +87,7 @@ pub fn link(
     if !is_no_dir(fs, ino) {
         return Err(AllocError);
     }
-    if !is_linked_dir(fs, dir) {
+    if !is_dir(fs, dir) {
         return Err(AllocError);
     }
     fs.link(alloc, ino, dir, name)

@@ -1,23 +1,18 @@
 // What the calls on names ask for, found out by the file system's own calls.
-ghost use Rattle.std.specs.Prelude.{◌≡◌, false, IsTrue, IsSome, IfOk, Some};
+ghost use Rattle.std.specs.Prelude.{◌≡◌, false, IsTrue, IsSome, Some};
 ghost use Rattle.std.specs.FinMap as map;
 ghost use Rattle.vfs_tree.specs.Nodes.{is_dir_node};
 ghost use Rattle.vfs_tree.specs.declared.node.NameEntry.TheVariants.{Ino};
-ghost use Rattle.mem_fs.specs.FileSystem.{IsLinkedDir, GivesBare};
+ghost use Rattle.mem_fs.specs.FileSystem.{GivesBare};
 
 use crate::fs::MemFs;
-use std::alloc::{AllocError, Global};
 use vfs_tree::{Kind, NameEntry};
 
-/// Whether there is such a directory that is the root or that some name gives.
-pub fn is_linked_dir(fs: &MemFs, dir: u32) -> bool
-    ensures linked { IsTrue result → IsLinkedDir fs.now.store dir }
-    ensures each { IsLinkedDir fs.now.store dir → IsTrue result }
+/// Whether there is such a directory.
+pub fn is_dir(fs: &MemFs, ino: u32) -> bool
+    ensures { result ≡ is_dir_node (map.get fs.now.store.nodes ino) }
 {
-    match fs.facts(dir) {
-        Some(facts) => facts.linked,
-        None => false,
-    }
+    fs.kind(ino) == Some(Kind::Dir)
 }
 
 /// Whether there is a node that is no directory.
@@ -34,22 +29,22 @@ pub fn is_no_dir(fs: &MemFs, ino: u32) -> bool
     }
 }
 
-/// Whether a node has no names that give an inode. The only fault is want of memory.
-fn is_bare(alloc: Global, fs: &MemFs, ino: u32) -> Result<bool, AllocError>
-    ensures bare { IfOk result (λ bare. IsTrue bare → GivesBare fs.now.store (Some (Ino ino))) }
-    ensures each { IfOk result (λ bare. GivesBare fs.now.store (Some (Ino ino)) → IsTrue bare) }
+/// Whether a node has no names that give an inode.
+fn is_bare(fs: &MemFs, ino: u32) -> bool
+    ensures bare { IsTrue result → GivesBare fs.now.store (Some (Ino ino)) }
+    ensures each { GivesBare fs.now.store (Some (Ino ino)) → IsTrue result }
 {
-    Ok(fs.list(alloc, ino)?.is_empty())
+    !fs.gives_some(ino)
 }
 
-/// Whether what the entry gives has no names that give an inode. The only fault is want of memory.
-pub fn gives_bare(alloc: Global, fs: &MemFs, entry: Option<NameEntry>) -> Result<bool, AllocError>
-    ensures bare { IfOk result (λ bare. IsTrue bare → GivesBare fs.now.store entry) }
-    ensures each { IfOk result (λ bare. GivesBare fs.now.store entry → IsTrue bare) }
+/// Whether what the entry gives has no names that give an inode.
+pub fn gives_bare(fs: &MemFs, entry: Option<NameEntry>) -> bool
+    ensures bare { IsTrue result → GivesBare fs.now.store entry }
+    ensures each { GivesBare fs.now.store entry → IsTrue result }
 {
     match entry {
-        Some(NameEntry::Ino { ino }) => is_bare(alloc, fs, ino),
-        Some(NameEntry::White) => Ok(true),
-        None => Ok(true),
+        Some(NameEntry::Ino { ino }) => is_bare(fs, ino),
+        Some(NameEntry::White) => true,
+        None => true,
     }
 }

@@ -1,18 +1,19 @@
 ghost use Rattle.std.specs.Prelude.{ℕ, ◌≡◌, ◌≢◌, ◌+◌, ◌-◌, ◌<◌, ◌≤◌, ◌^◌, ◌++◌, ◌↔◌, ◌||◌, min, max, length, take, drop, true, false, if◌then◌else◌, IsTrue, IsSome, IfSome, IfOk, OnOk, OnErr, option_map, option_and_then};
 ghost use Rattle.std.specs.Option.{option_copied};
 ghost use Rattle.std.specs.FinMap as map;
-ghost use Rattle.mem_dir.specs.Directory.{given_names, white_names};
+ghost use Rattle.mem_dir.specs.Directory.{white_names};
 ghost use Rattle.vfs_tree.specs.Nodes.{entry_in, is_dir_node, is_given, is_white};
+ghost use Rattle.vfs_tree.specs.Counts.{gives_some_at};
 ghost use Rattle.vfs_tree.specs.Edits.{made};
 ghost use Rattle.vfs_tree.specs.StoreEdits.{entry_of, set_entry, clear_entry, removed, renamed};
 ghost use Rattle.vfs_tree.specs.FileEdits.{written, resized};
 ghost use Rattle.vfs_tree.specs.Start.{empty_store};
 ghost use Rattle.vfs_tree.specs.Views.{kind_of_node, target_in, is_named_in, dir_in, dir_name};
-ghost use Rattle.vfs_tree.specs.Visible.{names_in};
+ghost use Rattle.vfs_tree.specs.Visible.{given_names, names_in};
 ghost use Rattle.vfs_tree.specs.declared.node.NameEntry.TheVariants.{Ino};
 ghost use Rattle.mem_fs.specs.Inodes.{edited, with_new};
 ghost use Rattle.mem_fs.specs.NewNodes.{new_node, new_reads, new_reserved};
-ghost use Rattle.mem_fs.specs.FileSystem.{with_store, without, bytes_in, IsLinkedDir, GivesBare};
+ghost use Rattle.mem_fs.specs.FileSystem.{with_store, without, bytes_in, GivesBare};
 
 use crate::entries::is_white;
 use crate::inode::{Content, Inode, NewNode, content_of};
@@ -89,7 +90,7 @@ impl MemFs {
         node: NewNode,
     ) -> Result<u32, AllocError>
         requires number { self.old.store.next < 4294967295 }
-        requires dir { IsLinkedDir self.old.store dir }
+        requires dir { is_dir_node (map.get self.old.store.nodes dir) ≡ true }
         requires new { is_given (entry_of self.old.store dir name) ≡ false }
         ensures number { IfOk result (λ ino. ino ≡ self.old.store.next) }
         ensures made { OnOk result (self.new.store ≡ made self.old.store dir name (new_node dir (is_white (entry_of self.old.store dir name)) node)) }
@@ -116,7 +117,7 @@ impl MemFs {
         name: &Name,
         white: bool,
     ) -> Result<(), AllocError>
-        requires dir { IsLinkedDir self.old.store dir }
+        requires dir { is_dir_node (map.get self.old.store.nodes dir) ≡ true }
         requires bare { GivesBare self.old.store (entry_of self.old.store dir name.now) }
         ensures removed { OnOk result (self.new ≡ with_store (removed white self.old.store dir name.now) self.old) }
         ensures err { OnErr result (self.new ≡ self.old) }
@@ -141,8 +142,8 @@ impl MemFs {
         white: bool,
         opaque: bool,
     ) -> Result<(), AllocError>
-        requires from { IsLinkedDir self.old.store from }
-        requires to { IsLinkedDir self.old.store to }
+        requires from { is_dir_node (map.get self.old.store.nodes from) ≡ true }
+        requires to { is_dir_node (map.get self.old.store.nodes to) ≡ true }
         requires given { is_given (entry_of self.old.store from old.now) ≡ true }
         requires apart { entry_of self.old.store to new.now ≢ entry_of self.old.store from old.now }
         requires bare { GivesBare self.old.store (entry_of self.old.store to new.now) }
@@ -162,11 +163,12 @@ impl MemFs {
         Ok(())
     }
 
-    /// Lets a further name of a directory give a node that is no directory, as link(2). The only fault is want of memory.
+    /// Lets a further name of a directory give a node that is no directory, as link(2). The only fault is want of
+    /// memory, which is also answered where 2^64-1 names give the node: so many fit in no machine's memory.
     pub fn link(&mut self, alloc: Global, ino: u32, dir: u32, name: Name) -> Result<(), AllocError>
         requires node { IsSome (map.get self.old.store.nodes ino) }
         requires file { is_dir_node (map.get self.old.store.nodes ino) ≡ false }
-        requires dir { IsLinkedDir self.old.store dir }
+        requires dir { is_dir_node (map.get self.old.store.nodes dir) ≡ true }
         requires new { is_given (entry_of self.old.store dir name) ≡ false }
         ensures linked { OnOk result (self.new ≡ with_store (set_entry self.old.store dir name (Ino ino)) self.old) }
         ensures err { OnErr result (self.new ≡ self.old) }
@@ -189,12 +191,14 @@ impl MemFs {
         nodes::clear(&mut self.nodes, dir, name);
     }
 
-    /// Drops a node that no name gives. The root stays for good.
+    /// Drops a node that no name gives, and with a directory its names, without memory. The root stays for good. It
+    /// costs a look-up of a node for each of the names.
     pub fn forget(&mut self, ino: u32)
         requires root { ino ≢ 1 }
         requires unnamed { is_named_in self.old.store ino ≡ false }
         ensures { self.new ≡ without self.old ino }
     {
+        nodes::take_names(&mut self.nodes, ino);
         self.nodes.remove(ino);
     }
 
@@ -227,6 +231,16 @@ impl MemFs {
             nodes: nodes::copy(alloc, &self.nodes)?,
             next: self.next,
         })
+    }
+
+    /// Whether there is such a directory and one of its names gives a node.
+    pub fn gives_some(&self, dir: u32) -> bool
+        ensures { result ≡ gives_some_at (map.get self.now.store.nodes dir) }
+    {
+        match self.nodes.get(dir) {
+            Some(inode) => inode.content.gives_some(),
+            None => false,
+        }
     }
 
     /// The names of a directory that give an inode, in byte order. The only fault is want of memory.

@@ -6,7 +6,7 @@ use crate::{MemFs, NewNode, callers};
 use plain_edits::Spot;
 use std::alloc::{AllocError, Global};
 use std::test::Fail;
-use vfs_tree::{Bytes, CountedStore, Name, NameEntry, NameMap, Node, Store};
+use vfs_tree::{Bytes, CountedStore, Kind, Name, NameEntry, NameMap, Node, Store};
 
 /// One of four names.
 fn name_by(alloc: Global, number: u32) -> Result<Name, Fail> {
@@ -142,6 +142,9 @@ fn write(alloc: Global, number: u32, fs: &mut MemFs, plain: &mut CountedStore) -
 {
     let ino = node_by(number);
     let at = (number / 8 % 9) as usize;
+    if fs.kind(ino) != Some(Kind::File) {
+        return Ok(false);
+    }
     callers::write(alloc, fs, ino, at, b"abc")?;
     plain.write(ino, at, b"abc")?;
     Ok(true)
@@ -153,6 +156,9 @@ fn cut(alloc: Global, number: u32, fs: &mut MemFs, plain: &mut CountedStore) -> 
 {
     let ino = node_by(number);
     let len = (number / 8 % 9) as usize;
+    if fs.kind(ino) != Some(Kind::File) {
+        return Ok(false);
+    }
     callers::cut(alloc, fs, ino, len)?;
     plain.resize(ino, len)?;
     Ok(true)
@@ -196,7 +202,8 @@ fn edits(alloc: Global, fs: &mut MemFs, plain: &mut CountedStore) -> Result<u32,
     Ok(made)
 }
 
-fn are_equal(alloc: Global, left: &Store, right: &Store) -> Result<bool, AllocError> {
+/// Whether two stores are written alike.
+pub fn are_equal(alloc: Global, left: &Store, right: &Store) -> Result<bool, AllocError> {
     let left = format!(in alloc; "{left:?}")?;
     let right = format!(in alloc; "{right:?}")?;
     Ok(left == right)

@@ -1,14 +1,17 @@
 // One node, and its edits.
 ghost use Rattle.std.specs.Option.{option_copied};
-ghost use Rattle.mem_dir.specs.Directory.{given_names, white_names};
+ghost use Rattle.mem_dir.specs.Directory.{white_names};
 ghost use Rattle.vfs_tree.specs.Views.{kind_of_node, target_in};
-ghost use Rattle.vfs_tree.specs.Visible.{names_in};
+ghost use Rattle.vfs_tree.specs.Visible.{given_names, names_in};
 ghost use Rattle.mem_fs.specs.FileSystem.{bytes_in, facts_by};
-ghost use Rattle.std.specs.Prelude.{◌≡◌, ◌+◌, ◌-◌, ◌<◌, ◌≤◌, ◌^◌, ◌++◌, length, take, drop, IfOk, OnOk, OnErr, Some, None};
+ghost use Rattle.std.specs.Prelude.{◌≡◌, ◌+◌, ◌-◌, ◌<◌, ◌≤◌, ◌^◌, ◌++◌, ◌∷◌, [], length, take, drop, IfOk, OnOk, OnErr, IfSome, IfNone, Some, None};
+ghost use Rattle.std.specs.FinMap as map;
+ghost use Rattle.std.specs.FinMap.{entries};
+ghost use Rattle.vfs_tree.specs.Counts.{gives_some};
 ghost use Rattle.vfs_tree.specs.Nodes.{entry_in};
 ghost use Rattle.vfs_tree.specs.Edits.{new_dir};
-ghost use Rattle.mem_fs.specs.Contents.{shown, name_of, reads_of, reserved_of, HasRoom, IsRoomy, HasRoomTo, put_in, cleared_in, counted_in, made_ready, bared, placed, written_in, cut_in, reserved_to};
-ghost use Rattle.mem_fs.specs.Inodes.{let_go, gained};
+ghost use Rattle.mem_fs.specs.Contents.{shown, name_of, reads_of, reserved_of, HasRoom, IsRoomy, HasRoomTo, put_in, cleared_in, counted_in, made_ready, bared, nameless, placed, written_in, cut_in, reserved_to};
+ghost use Rattle.mem_fs.specs.Inodes.{let_go, lost, gained};
 ghost use Rattle.mem_fs.specs.NewNodes.{new_node, new_reads, new_reserved, new_name};
 
 use finite_maps::Duplicate;
@@ -105,6 +108,17 @@ impl Content {
             Content::Dir { names, .. } => Some(names.reads()),
             Content::File { .. } => None,
             Content::Link { .. } => None,
+        }
+    }
+
+    /// Whether it is a directory one of whose names gives a node.
+    pub fn gives_some(&self) -> bool
+        ensures { result ≡ gives_some (shown self.now) }
+    {
+        match self {
+            Content::Dir { names, .. } => names.gives_some(),
+            Content::File { .. } => false,
+            Content::Link { .. } => false,
         }
     }
 
@@ -263,6 +277,33 @@ impl Content {
         }
     }
 
+    /// Takes the last name of a directory away, and answers it with what it gave. `None` comes exactly where there is
+    /// none.
+    pub fn pop_last(&mut self) -> Option<(Name, NameEntry)>
+        ensures some { IfSome result (λ pair. entry_in pair.0 (Some (shown self.old)) ≡ Some pair.1) }
+        ensures cleared { IfSome result (λ pair. self.new ≡ cleared_in pair.0 self.old) }
+        ensures last { IfSome result (λ pair. entries (names_in (Some (shown self.old))) ≡ entries (names_in (Some (shown self.new))) ++ pair ∷ []) }
+        ensures none { IfNone result (names_in (Some (shown self.old)) ≡ map.empty) }
+        ensures unchanged { IfNone result (self.new ≡ self.old) }
+    {
+        match self {
+            Content::Dir { names, .. } => names.pop_last(),
+            Content::File { .. } => None,
+            Content::Link { .. } => None,
+        }
+    }
+
+    /// Takes the name away that its parent had for a directory.
+    pub fn forget_name(&mut self)
+        ensures { self.new ≡ nameless self.old }
+    {
+        match self {
+            Content::Dir { name, .. } => *name = None,
+            Content::File { .. } => (),
+            Content::Link { .. } => (),
+        }
+    }
+
     /// Takes all names of a directory away, and the one that its parent had for it.
     pub fn bare(&mut self)
         ensures { self.new ≡ bared self.old }
@@ -342,6 +383,14 @@ impl Inode {
     {
         self.links = self.links.saturating_sub(1);
         self.content.bare();
+    }
+
+    /// Takes note that one name fewer gives it, since that name's directory is dropped. A directory keeps its names.
+    pub fn lose(&mut self)
+        ensures { self.new ≡ lost self.old }
+    {
+        self.links = self.links.saturating_sub(1);
+        self.content.forget_name();
     }
 
     /// Takes note that one name more gives it.

@@ -18,7 +18,7 @@ mod nodes;
 mod tests;
 mod vop;
 
-pub use checks::{gives_bare, is_linked_dir, is_no_dir};
+pub use checks::{gives_bare, is_dir, is_no_dir};
 pub use entries::{is_given, is_white};
 pub use fs::MemFs;
 pub use inode::NewNode;

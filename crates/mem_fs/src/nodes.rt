@@ -1,11 +1,13 @@
 // Edits of one of the nodes by number, each without memory but where it says so.
-ghost use Rattle.std.specs.Prelude.{ℕ, ◌≡◌, ◌+◌, ◌-◌, ◌<◌, ◌≤◌, ◌^◌, ◌==◌, ◌||◌, length, is_some, IfOk, IfSome, OnOk, OnErr, option_map};
+ghost use Rattle.std.specs.Prelude.{ℕ, ◌≡◌, ◌+◌, ◌-◌, ◌<◌, ◌≤◌, ◌^◌, ◌==◌, ◌||◌, length, is_some, Some, IfOk, IfSome, IfNone, OnOk, OnErr, option_map};
 ghost use Rattle.std.specs.FinMap as map;
 ghost use Rattle.vfs_tree.specs.Nodes.{entry_in};
+ghost use Rattle.vfs_tree.specs.Visible.{names_in};
 ghost use Rattle.mem_fs.specs.Contents.{counted_in, made_ready, placed, written_in, cut_in, reserved_to};
-ghost use Rattle.mem_fs.specs.Inodes.{node_of, nodes_of, edited, with_content, links_of, gained, put_at, cleared_at, given_gone, dropped_at, given_to};
+ghost use Rattle.mem_fs.specs.Inodes.{node_of, nodes_of, edited, with_content, links_of, name_count, gained, put_at, cleared_at, given_lost, given_gone, dropped_at, given_to};
 ghost use Rattle.vfs_tree.specs.Counts.{above_zero};
-ghost use Rattle.mem_fs.specs.Invariant.{IsLike};
+ghost use Rattle.mem_fs.specs.FileSystem.{seen, without};
+ghost use Rattle.mem_fs.specs.Invariant.{IsKept, IsLike};
 ghost use Rattle.mem_fs.specs.Rooms.{HasRoomAt, IsRoomyAt, HasRoomToAt};
 
 use crate::inode::Inode;
@@ -64,6 +66,47 @@ pub fn clear(nodes: &mut NumberMap<Inode>, dir: u32, name: &Name)
 {
     if let Some(inode) = nodes.get_mut(dir) {
         inode.content.clear(name);
+    }
+}
+
+/// Takes the last name of a directory away, and answers it with what it gave. `None` comes exactly where there is none.
+fn pop_last(nodes: &mut NumberMap<Inode>, dir: u32) -> Option<(Name, NameEntry)>
+    ensures some { IfSome result (λ pair. entry_in pair.0 (option_map node_of (map.get nodes.old dir)) ≡ Some pair.1) }
+    ensures cleared { IfSome result (λ pair. nodes.new ≡ cleared_at nodes.old dir pair.0) }
+    ensures fewer { IfSome result (λ pair. name_count (map.get nodes.old dir) ≡ name_count (map.get nodes.new dir) + 1) }
+    ensures none { IfNone result (names_in (option_map node_of (map.get nodes.old dir)) ≡ map.empty) }
+    ensures unchanged { IfNone result (nodes.new ≡ nodes.old) }
+{
+    match nodes.get_mut(dir) {
+        Some(inode) => inode.content.pop_last(),
+        None => None,
+    }
+}
+
+/// Takes note that a name of a directory that is dropped gave what the entry gives.
+fn lose(nodes: &mut NumberMap<Inode>, entry: NameEntry)
+    ensures { nodes.new ≡ given_lost nodes.old entry }
+{
+    let ino = match entry {
+        NameEntry::Ino { ino } => ino,
+        NameEntry::White => return,
+    };
+    if let Some(inode) = nodes.get_mut(ino) {
+        inode.lose();
+    }
+}
+
+/// Takes all names of a directory that is to be dropped away, from the last on. Each node that they gave has one name
+/// fewer.
+pub fn take_names(nodes: &mut NumberMap<Inode>, dir: u32)
+    requires { links_of (map.get nodes.old dir) ≡ 0 }
+    ensures names { names_in (option_map node_of (map.get nodes.new dir)) ≡ map.empty }
+    ensures unnamed { links_of (map.get nodes.new dir) ≡ 0 }
+    ensures kept { (next : ℕ) → IsKept nodes.old next → IsKept nodes.new next }
+    ensures rest { (next : ℕ) → without (seen nodes.new next) dir ≡ without (seen nodes.old next) dir }
+{
+    while let Some((_name, entry)) = pop_last(nodes, dir) {
+        lose(nodes, entry);
     }
 }
 

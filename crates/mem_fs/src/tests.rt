@@ -1,10 +1,11 @@
 use crate::callers::{clear_white, cut, forget, link, make, remove, rename, write};
+use crate::hundred_edits::are_equal;
 use crate::{MemFs, MemVop, NewNode};
 use mem_file::MemFile;
 use op_vector::{Route, VData, Vop};
 use std::alloc::Global;
 use std::test::Fail;
-use vfs_tree::{ByteBuffer, Bytes, DirFacts, Errno, Kind, Name, NameEntry, Node};
+use vfs_tree::{ByteBuffer, Bytes, DirFacts, Errno, Kind, Name, NameEntry, Node, Store};
 
 /// A file system with a directory, which has the number 2, at `dir`.
 fn with_dir(alloc: Global) -> Result<MemFs, Fail> {
@@ -236,6 +237,32 @@ fn a_node_that_is_forgotten(rt: HostRuntime) -> Result<(), Fail> {
     assert_eq!(rt; fs.kind(2), Some(Kind::File));
     forget(&mut fs, 2)?;
     assert_eq!(rt; fs.kind(2), None);
+    Ok(())
+}
+
+/// The store without the node of a number.
+fn store_without(alloc: Global, fs: &MemFs, ino: u32) -> Result<Store, Fail> {
+    let mut store = fs.store(alloc)?;
+    store.nodes.remove(ino);
+    Ok(store)
+}
+
+#[test]
+fn a_directory_that_is_forgotten_with_a_name(rt: HostRuntime) -> Result<(), Fail> {
+    let alloc = rt.alloc();
+    let mut fs = with_dir(alloc)?;
+    remove(alloc, &mut fs, 1, &Name::new(alloc, b"dir")?, false)?;
+    let name = Name::new(alloc, b"inner")?;
+    assert_eq!(rt; make(alloc, &mut fs, 2, name, NewNode::Dir)?, 3);
+    assert!(rt; fs.is_named(3));
+    let left = store_without(alloc, &fs, 2)?;
+    forget(&mut fs, 2)?;
+    assert!(rt; are_equal(alloc, &fs.store(alloc)?, &left)?);
+    assert!(rt; !fs.is_named(3));
+    assert!(rt; fs.name_of(3).is_none());
+    let left = store_without(alloc, &fs, 3)?;
+    forget(&mut fs, 3)?;
+    assert!(rt; are_equal(alloc, &fs.store(alloc)?, &left)?);
     Ok(())
 }
 

@@ -17,7 +17,6 @@ use Rattle.vfs_tree.specs.declared.node.NameEntry.{NameEntry}
 use Rattle.vfs_tree.specs.declared.node.NameEntry.TheVariants.{Ino}
 use Rattle.vfs_tree.specs.declared.node.Store.{Store}
 use Rattle.call_laws.proofs.DropLaws.{set_at, set_case}
-use Rattle.mem_fs.specs.FileSystem.{IsLinkedDir}
 use Rattle.name_bench.specs.Found.{gives}
 
 -- the kind of a directory
@@ -28,8 +27,8 @@ dir_kind (Some (Link target)) h = absurd (let clash : false ≡ true = h in cc)
 dir_kind None h = absurd (let clash : false ≡ true = h in cc)
 
 -- a name that was set gives the node
-pub gives_set : (t u : Store) (d i : ℕ) (n : List ℕ) → IsLinkedDir t d → u ≡ set_entry t d n (Ino i) → entry_of u d n ≡ Some (Ino i)
-gives_set t u d i n dir is = ap (λ (x : Store). entry_of x d n) is ∙ set_at t d n (Ino i) (dir_kind (get t.nodes d) dir.dir)
+pub gives_set : (t u : Store) (d i : ℕ) (n : List ℕ) → is_dir_node (get t.nodes d) ≡ true → u ≡ set_entry t d n (Ino i) → entry_of u d n ≡ Some (Ino i)
+gives_set t u d i n dir is = ap (λ (x : Store). entry_of x d n) is ∙ set_at t d n (Ino i) (dir_kind (get t.nodes d) dir)
 
 -- and a name that gave it still does
 pub gives_kept : (t u : Store) (d i : ℕ) (n m : List ℕ) → u ≡ set_entry t d n (Ino i) → entry_of t d m ≡ Some (Ino i) → entry_of u d m ≡ Some (Ino i)

@@ -6,7 +6,7 @@ ghost use Rattle.name_bench.specs.Found.{gives};
 
 use crate::fault::Fault;
 use finite_maps::Duplicate;
-use mem_fs::{MemFs, NewNode, gives_bare, is_given, is_linked_dir, is_no_dir};
+use mem_fs::{MemFs, NewNode, gives_bare, is_dir, is_given, is_no_dir};
 use std::alloc::Global;
 use turn_order::mix;
 use vfs_tree::{Name, NameEntry};
@@ -38,7 +38,7 @@ fn names_of(alloc: Global, count: u32) -> Result<Vec<Name>, Fault>
 /// Makes a file in the root directory, and answers its inode number.
 fn make_file(alloc: Global, fs: &mut MemFs) -> Result<u32, Fault> {
     let name = Name::new(alloc, b"file")?;
-    if is_given(fs.find(ROOT, &name)) || !fs.has_number() || !is_linked_dir(fs, ROOT) {
+    if is_given(fs.find(ROOT, &name)) || !fs.has_number() || !is_dir(fs, ROOT) {
         return Err(Fault::Unmet);
     }
     Ok(fs.make(alloc, ROOT, name, NewNode::File)?)
@@ -49,7 +49,7 @@ fn link(alloc: Global, fs: &mut MemFs, file: u32, name: Name) -> Result<(), Faul
     ensures gives { OnOk result (entry_of fs.new.store 1 name ≡ Some (Ino file)) }
     ensures kept { OnOk result ((n : List ℕ) → entry_of fs.old.store 1 n ≡ Some (Ino file) → entry_of fs.new.store 1 n ≡ Some (Ino file)) }
 {
-    if is_given(fs.find(ROOT, &name)) || !is_no_dir(fs, file) || !is_linked_dir(fs, ROOT) {
+    if is_given(fs.find(ROOT, &name)) || !is_no_dir(fs, file) || !is_dir(fs, ROOT) {
         return Err(Fault::Unmet);
     }
     fs.link(alloc, file, ROOT, name)?;
@@ -96,7 +96,7 @@ fn find_each(fs: &mut MemFs, file: u32, names: &[Name]) -> u64
 /// Removes the name of the root directory, as unlink(2).
 fn remove(alloc: Global, fs: &mut MemFs, name: &Name) -> Result<(), Fault> {
     let entry = fs.find(ROOT, name);
-    if !gives_bare(alloc, fs, entry)? || !is_linked_dir(fs, ROOT) {
+    if !gives_bare(fs, entry) || !is_dir(fs, ROOT) {
         return Err(Fault::Unmet);
     }
     fs.remove(alloc, ROOT, name, false)?;

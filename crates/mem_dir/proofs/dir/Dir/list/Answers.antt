@@ -1,6 +1,7 @@
-use Rattle.std.proofs.Common.{◌≡◌, ap, sym, ◌∙◌, false}
+use Rattle.std.proofs.Common.{◌≡◌, ap, ◌∙◌, false}
 use Rattle.std.specs.List.{filter_map}
-use Rattle.mem_dir.specs.Directory.{given_name, given_names, listed}
+use Rattle.vfs_tree.specs.Visible.{given_name, given_names}
+use Rattle.mem_dir.specs.Directory.{listed}
 use Rattle.mem_dir.specs.Records.{joined}
 use Rattle.mem_dir.proofs.Listing.{ok_more, entries_rising}
 use Rattle.mem_dir.proofs.dir.Dir.list.Goals as goal

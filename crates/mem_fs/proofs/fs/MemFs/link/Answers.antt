@@ -3,7 +3,7 @@ use Rattle.mem_fs.specs.FileSystem.{seen}
 use Rattle.mem_fs.specs.Invariant.{IsKept}
 use Rattle.mem_fs.proofs.Seen.{kept-like, seen-linked}
 use Rattle.mem_fs.proofs.KeptLaws.{kept-linked}
-use Rattle.mem_fs.proofs.Calls.{dir_of, linked_of, there_of, file_of, not_given, room_linked, even_err}
+use Rattle.mem_fs.proofs.Calls.{dir_of, there_of, file_of, not_given, room_linked, even_err}
 use Rattle.mem_fs.proofs.fs.MemFs.link.Goals as goal
 
 pub invariant_of-self : goal.invariant_of-self
@@ -23,7 +23,7 @@ invariant_of-self-2 c =
     let is : seen n next ≡ v = c.make_room.ensures.like.seen next ∙ c.self.view_is in
     let kept : IsKept n next = kept-like c.self.inside.nodes n next c.make_room.ensures.like c.self.invariant in
     kept-linked n _ _ next c.args.ino c.args.dir c.args.name kept (there_of n next v c.args.ino is c.requires.node) (file_of n next v c.args.ino is c.requires.file) (not_given n next v c.args.dir c.args.name is c.requires.new)
-    (dir_of n next v c.args.dir is c.requires.dir.dir) (linked_of n next v c.args.dir is kept c.requires.dir.linked) c.gain.ensures c.put.ensures
+    (dir_of n next v c.args.dir is c.requires.dir) c.gain.ensures c.put.ensures
 
 pub returns-clause-linked : goal.returns-clause-linked
 returns-clause-linked c =

@@ -1,7 +1,6 @@
 use Rattle.std.proofs.Common.{subst, sym, ap, ◌∙◌, ◌≡◌}
 use Rattle.std.specs.Prelude.{Some, None, IfOk}
-use Rattle.mem_dir.specs.Directory.{given_names}
-use Rattle.vfs_tree.specs.Visible.{names_in}
+use Rattle.vfs_tree.specs.Visible.{given_names, names_in}
 use Rattle.mem_fs.proofs.Looks.{looked, no_given}
 use Rattle.mem_fs.proofs.fs.MemFs.list.Goals as goal
 

@@ -11,7 +11,7 @@ use Rattle.mem_fs.proofs.Seen.{kept-like, none_next, nodes-made, kept-made, read
 use Rattle.mem_fs.proofs.Looks.{find_found}
 use Rattle.mem_fs.proofs.Rooms.{dir_below}
 use Rattle.mem_fs.proofs.KeptLaws as laws
-use Rattle.mem_fs.proofs.Calls.{dir_of, linked_of, not_given, new_bare, new_known, room_made, even_err}
+use Rattle.mem_fs.proofs.Calls.{dir_of, not_given, new_bare, new_known, room_made, even_err}
 use Rattle.mem_fs.proofs.fs.MemFs.make.Goals as goal
 
 pub invariant_of-self : goal.invariant_of-self
@@ -26,7 +26,7 @@ put-requires c =
     let next = c.self.inside.next in
     let is : seen n next ≡ c.args.self.now = c.make_room.ensures.like.seen next ∙ c.self.view_is in
     let kept : IsKept n next = kept-like c.self.inside.nodes n next c.make_room.ensures.like c.self.invariant in
-    room_made n _ next c.args.dir _ c.args.name c.in_ok-make_room.ensures.room (dir_below n next c.args.dir c.args.self.now is kept c.requires.dir.dir) c.in_ok-insert.ensures.ok
+    room_made n _ next c.args.dir _ c.args.name c.in_ok-make_room.ensures.room (dir_below n next c.args.dir c.args.self.now is kept c.requires.dir) c.in_ok-insert.ensures.ok
 
 pub invariant_of-self-2 : goal.invariant_of-self-2
 invariant_of-self-2 c =
@@ -40,8 +40,8 @@ invariant_of-self-2 c =
     (λ p at.
     let own = new_known c.args.dir c.is_white-white.result c.args.name c.args.node p (sym (ap (λ x. parent_in (Some x)) c.in_ok-content.ensures.shown) ∙ at) in
     (own.0, c.in_ok-content.ensures.name ∙ own.1))
-    (dir_below n next c.args.dir v is kept c.requires.dir.dir) (not_given n next v c.args.dir c.args.name is c.requires.new)
-    (dir_of n next v c.args.dir is c.requires.dir.dir) (linked_of n next v c.args.dir is kept c.requires.dir.linked) c.in_ok-insert.ensures.ok c.put.ensures
+    (dir_below n next c.args.dir v is kept c.requires.dir) (not_given n next v c.args.dir c.args.name is c.requires.new)
+    (dir_of n next v c.args.dir is c.requires.dir) c.in_ok-insert.ensures.ok c.put.ensures
 
 pub returns-clause-made : goal.returns-clause-made
 returns-clause-made c =

@@ -26,7 +26,7 @@ invariant_of-self-2 c =
     let kept : IsKept n next = kept-like c.self.inside.nodes n next c.whiteout.ensures.like c.self.invariant in
     kept-removed n _ _ next c.entry_of-given.result _ c.args.dir c.args.name.now kept c.entry_of-given.ensures
     (bare_of n next c.args.self.now c.args.dir c.args.name.now c.entry_of-given.result is c.entry_of-given.ensures c.requires.bare)
-    (dir_of n next c.args.self.now c.args.dir is c.requires.dir.dir) c.let_go.ensures c.drop_name.ensures
+    (dir_of n next c.args.self.now c.args.dir is c.requires.dir) c.let_go.ensures c.drop_name.ensures
 
 pub returns-clause-removed : goal.returns-clause-removed
 returns-clause-removed c =

@@ -6,7 +6,7 @@ use Rattle.mem_fs.specs.Invariant.{IsKept}
 use Rattle.mem_fs.proofs.Seen.{kept-like, like_both, seen-renamed}
 use Rattle.mem_fs.proofs.Looks.{find_found}
 use Rattle.mem_fs.proofs.KeptLaws.{kept-renamed}
-use Rattle.mem_fs.proofs.Calls.{dir_of, bare_of, bare_store, linked_of, room_copy, roomy_copy, room_new, even_err}
+use Rattle.mem_fs.proofs.Calls.{dir_of, bare_of, bare_store, room_copy, roomy_copy, room_new, even_err}
 use Rattle.mem_fs.proofs.fs.MemFs.rename.Goals as goal
 
 pub invariant_of-self : goal.invariant_of-self
@@ -53,7 +53,7 @@ invariant_of-self-2 c =
     (ap is_given (c.entry_of-given.ensures ∙ find_found n next c.args.from c.args.old.now v is) ∙ c.requires.given)
     (λ same. c.requires.apart (sym (c.entry_of-target.ensures ∙ find_found n next c.args.to c.args.new.now v is) ∙ same ∙ c.entry_of-given.ensures ∙ find_found n next c.args.from c.args.old.now v is))
     (bare_of n next v c.args.to c.args.new.now c.entry_of-target.result is c.entry_of-target.ensures c.requires.bare)
-    (dir_of n next v c.args.from is c.requires.from.dir) (dir_of n next v c.args.to is c.requires.to.dir) (linked_of n next v c.args.to is kept c.requires.to.linked)
+    (dir_of n next v c.args.from is c.requires.from) (dir_of n next v c.args.to is c.requires.to)
     c.let_go.ensures c.drop_name.ensures (c.give.ensures ∙ ap (λ x. given_to c.drop_name.new.nodes c.args.to x c.hides-conceals.result c.entry_of-given.result) c.in_ok-name.ensures)
 
 pub returns-clause-renamed : goal.returns-clause-renamed

@@ -1,7 +1,6 @@
 use Rattle.std.proofs.Common.{◌≡◌, sym, ◌∙◌, subst}
 use Rattle.std.specs.Prelude.{Some}
-use Rattle.mem_dir.specs.Directory.{given_names}
-use Rattle.vfs_tree.specs.Visible.{names_in}
+use Rattle.vfs_tree.specs.Visible.{given_names, names_in}
 use Rattle.mem_fs.specs.declared.inode.Content.{Content}
 use Rattle.mem_fs.specs.Contents.{shown}
 use Rattle.mem_fs.proofs.Looks.{no_given}
