@@ -22,7 +22,8 @@ use Rattle.call_laws.proofs.Whole.{IsWhole}
 use Rattle.fuel_laws.specs.Layered.{IsLayered}
 use Rattle.fuel_laws.specs.ShownUnder.{shown_under, shown_lower}
 use Rattle.fuel_laws.proofs.LookLaws.{low_whole}
-use Rattle.fuel_laws.proofs.WayLaws.{IsShort, short_way, parent_linked, not_one}
+use Rattle.model_laws.proofs.WayLaws.{not_one}
+use Rattle.fuel_laws.proofs.WayLaws.{IsShort, short_way, parent_linked}
 
 -- ---- lower parts
 

@@ -26,12 +26,13 @@ use Rattle.call_laws.proofs.NamedLaws.{no_way}
 use Rattle.call_laws.proofs.PlaceLaws.{good_view}
 use Rattle.call_laws.proofs.Whole.{IsWhole}
 use Rattle.call_laws.proofs.WholeLaws.{well_store}
+use Rattle.model_laws.proofs.WayLaws.{ShortWay, short_way}
 use Rattle.layer_laws.proofs.LowerLaws.{Stands}
 use Rattle.layer_laws.proofs.NestLaws.{Under, shown_from, nests-below, shown_looking, shown_nests}
 use Rattle.layer_laws.proofs.AvoidLaws.{Avoids, none_along, need_along, avoids_dir, frame-within}
 use Rattle.layer_laws.proofs.MadeStores.{node_new, entry_new, entry_fresh, linked_new}
 use Rattle.layer_laws.proofs.UpperLaws.{IsMade, world_made, below, parts, free_in, store_new, unchanged, same_lower, same_beside, upper_shown, upper_then, entry_is, same_steps, beside, hidden_along, upper_shows}
-use Rattle.layer_laws.proofs.WayLaws.{ShortWay, short_way, low_more}
+use Rattle.layer_laws.proofs.WayLaws.{low_more}
 use Rattle.layer_laws.proofs.TwinLaws.{plain_shows, dir_child, dir_shown, linked_u, other_u, node_made, made_at, other_top, other_root}
 
 -- one step fewer than there are

@@ -10,3 +10,4 @@ pub mod FoldLaws
 pub mod AddLaws
 pub mod FuelLaws
 pub mod MemLaws
+pub mod WayLaws
