@@ -1,16 +1,17 @@
-ghost use Rattle.std.specs.Prelude.{◌≡◌, ℕ, List, Option, Some, false};
+ghost use Rattle.std.specs.Prelude.{◌≡◌, ℕ, List, Option, Some, false, option_map};
 ghost use Rattle.vfs_tree.specs.Layers.{is_cut, kind_in, root_of};
-ghost use Rattle.vfs_tree.specs.Place.{Null, Seen};
+ghost use Rattle.vfs_tree.specs.Place.{Null, Seen, mount_of};
 ghost use Rattle.vfs_tree.specs.Shown.{shown};
 ghost use Rattle.vfs_tree.specs.Sound.{IsSound};
 ghost use Rattle.vfs_tree.specs.Views.{facts_of};
 ghost use Rattle.vfs_tree.specs.declared.mount.MountKind.TheVariants as kind;
 ghost use Rattle.vfs_tree.specs.declared.node.Node.{Node};
 ghost use Rattle.vfs_tree.specs.declared.node.Store.{Store};
+ghost use Rattle.vfs_tree.specs.declared.walk.Found.TheVariants as found;
 ghost use Rattle.vfs_tree.specs.declared.world.World.{World};
 ghost use Rattle.call_model.specs.Checks.{drop_at, edit_at, make_at, node_of};
 ghost use Rattle.call_model.specs.DataRows.{resize_at};
-ghost use Rattle.call_model.specs.NameRows.{renamed_at};
+ghost use Rattle.call_model.specs.NameRows.{link, mkdir, renamed_at, undelete};
 ghost use Rattle.call_model.specs.declared.target.Target.{Target};
 ghost use Rattle.call_laws.specs.Lasting.{IsLasting, IsOver, IsUncut};
 
@@ -34,6 +35,16 @@ pub fn an_edit_through_a_null_mount_is_that_of_its_layer()
     ensures edit { (w : World) (m : ℕ) (p : Seen) (edit : Store → ℕ → Store) → edit_at w (Null m p) edit ≡ edit_at w p edit }
     // A node is made at a name, or refused, as it is in the layer.
     ensures made { (w : World) (m : ℕ) (d : Seen) (n : List ℕ) (node : Node) → make_at w (Null m d) n node ≡ make_at w d n node }
+    // A directory is made at a name, or refused, as it is there: below the same one, and opaque over a whiteout.
+    ensures directory { (w : World) (m : ℕ) (d : Seen) (n : List ℕ) (child : Option Seen)
+        → mkdir w (found.In (Null m d) n (option_map (Null m) child)) ≡ mkdir w (found.In d n child) }
+    // A file gets another name, or is refused it, as it does there, where the two places there lie in one mount.
+    ensures linked { (w : World) (m : ℕ) (p d : Seen) (n : List ℕ) (child : Option Seen) → mount_of p ≡ mount_of d
+        → link w (found.At (Null m p)) (found.In (Null m d) n (option_map (Null m) child))
+        ≡ link w (found.At p) (found.In d n child) }
+    // A whiteout stands at a name where one stands there, and goes as it does there.
+    ensures cleared { (w : World) (m : ℕ) (d : Seen) (n : List ℕ) (child : Option Seen)
+        → undelete w (found.In (Null m d) n (option_map (Null m) child)) ≡ undelete w (found.In d n child) }
     // A name is dropped, with a whiteout or without one, as it is there.
     ensures dropped { (w : World) (m : ℕ) (d : Seen) (n : List ℕ) → drop_at w (Null m d) n ≡ drop_at w d n }
     // A name is moved from one directory to another as it is there.
