@@ -1,20 +1,17 @@
 -- A shadow directory that a call needs in a union that is cut leaves what the union shows.
 use Rattle.std.proofs.Common.{◌≡◌, ℕ, Bool, true, false, not, List, refl, ap, sym, ◌∙◌, subst}
-use Rattle.std.specs.Prelude.{Option, Some, None, option_map}
+use Rattle.std.specs.Prelude.{Option, Some, None}
 use Rattle.std.specs.FinMap.{get, empty}
 use Rattle.vfs_tree.specs.Edits.{made, with_store, new_dir}
 use Rattle.vfs_tree.specs.Facts.{Facts}
-use Rattle.vfs_tree.specs.Layers.{kind_in, store_by, root_of, root_by, is_cut, is_dir, is_dir_kind}
+use Rattle.vfs_tree.specs.Layers.{kind_in, store_by, root_of, root_by, is_cut, is_dir}
 use Rattle.vfs_tree.specs.Mounts.{Mounts, Leaving}
 use Rattle.vfs_tree.specs.Place.{Seen, mount_of}
-use Rattle.vfs_tree.specs.Shown.{shown_node, shown_at, shown}
-use Rattle.vfs_tree.specs.Shown as seen
+use Rattle.vfs_tree.specs.Shown.{shown_at, shown}
 use Rattle.vfs_tree.specs.Sound.{IsSound}
-use Rattle.vfs_tree.specs.Views.{kind_of_node, facts_of}
+use Rattle.vfs_tree.specs.Views.{facts_of}
 use Rattle.vfs_tree.specs.Visible.{Listed, visible}
 use Rattle.vfs_tree.specs.declared.mount.MountKind.{MountKind}
-use Rattle.vfs_tree.specs.declared.node.Node.{Node}
-use Rattle.vfs_tree.specs.declared.node.Node.TheVariants.{Dir, File, Link}
 use Rattle.vfs_tree.specs.declared.node.Store.{Store}
 use Rattle.vfs_tree.specs.declared.open.Open.{Open}
 use Rattle.vfs_tree.specs.declared.walk.Step.TheVariants.{Go, Refuse, Wants}
@@ -30,13 +27,13 @@ use Rattle.call_model.specs.declared.entry.Inner.TheVariants.{Shadow, CopyUp, De
 use Rattle.call_model.specs.declared.reply.Reply.{Reply}
 use Rattle.call_laws.specs.Lasting.{IsLasting}
 use Rattle.call_laws.proofs.FoundLaws.{IsGood, dir_ready}
-use Rattle.call_laws.proofs.NamedLaws.{no_way}
 use Rattle.call_laws.proofs.Parts.{Keeps, Any, found_so, refused, needed, then, unless}
 use Rattle.call_laws.proofs.PlaceLaws.{good_view}
 use Rattle.call_laws.proofs.SoundParts.{is_so}
 use Rattle.call_laws.proofs.Whole.{IsWhole}
 use Rattle.layer_laws.specs.Apart.{IsApart}
 use Rattle.layer_laws.specs.Listings.{IsCutListing}
+use Rattle.layer_laws.proofs.TwinLaws.{dir_shown}
 use Rattle.layer_laws.proofs.UncutLaws.{Comes, Whatever, uncut-visible}
 use Rattle.layer_laws.proofs.UncutRows.{shadow_uncut}
 use Rattle.layer_laws.proofs.UnionLaws.{shadow_root}
@@ -88,12 +85,6 @@ module _ (w : World) (c d : ℕ) where
       of x = x.holds
 
 -- ---- in the world in which its mount isn't cut
-
-dir_shown : (o : Option Node) → is_dir_kind (option_map kind_of_node o) ≡ true → option_map shown_node o ≡ Some seen.Dir
-dir_shown (Some (Dir parent opaque names)) e = refl
-dir_shown (Some (File bytes)) e = no_way e
-dir_shown (Some (Link target)) e = no_way e
-dir_shown None e = no_way e
 
 -- a store is changed, and the mounts are others
 edit_other : (w : World) (mounts : Mounts) (leaving : Leaving) (edit : Store → Store) (s : ℕ) (o : Option Store) → with_store edit (other w mounts leaving) s o ≡ other (with_store edit w s o) mounts leaving

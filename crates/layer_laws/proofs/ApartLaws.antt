@@ -35,7 +35,7 @@ use Rattle.vfs_tree.specs.declared.walk.Found.TheVariants as found
 use Rattle.vfs_tree.specs.declared.walk.Step.TheVariants.{Go, Refuse, Wants}
 use Rattle.vfs_tree.specs.declared.world.World.{World}
 use Rattle.call_model.specs.Apply.{Applied, Finished, Needs, settle}
-use Rattle.call_model.specs.Checks.{Doing, Outcome, is_full, upper_store, copied, place_at, mount_at, target_at, there, dir_at, free_target, node_of, has_white, edit_at, make_at, drop_at}
+use Rattle.call_model.specs.Checks.{Outcome, is_full, upper_store, copied, place_at, mount_at, target_at, there, dir_at, free_target, node_of, has_white, edit_at, make_at, drop_at}
 use Rattle.call_model.specs.DataRows as data_rows
 use Rattle.call_model.specs.Effects.{copy_of, copied_child, detached, doomed_place, effect, made_above}
 use Rattle.call_model.specs.Legal.{Pending, IsNeeded, IsLegal, IsLegalFrom, doomers_after, next_call, after, replay}
@@ -58,13 +58,14 @@ use Rattle.call_laws.specs.Quiet.{IsQuiet}
 use Rattle.call_laws.proofs.DetachLaws.{lower_less}
 use Rattle.call_laws.proofs.FlagLaws.{get_each}
 use Rattle.call_laws.proofs.NeededLaws.{whole-needed}
-use Rattle.call_laws.proofs.Parts.{Keeps, Any, found_so, refused, needed, then, unless}
+use Rattle.call_laws.proofs.Parts.{Keeps, found_so, refused, needed, then, unless}
 use Rattle.call_laws.proofs.PlaceLaws.{lasting-start}
 use Rattle.call_laws.proofs.SoundLaws.{only, sound-start}
 use Rattle.call_laws.proofs.SoundParts.{or_none, kind_or, mount_there}
 use Rattle.call_laws.proofs.SoundRows.{AnyNeed, LeavesSo, IsSteady, so-decide, so-quiet}
 use Rattle.call_laws.proofs.Whole.{IsWhole}
 use Rattle.call_laws.proofs.WorldLaws.{whole-call}
+use Rattle.model_laws.proofs.Leaving.{any}
 use Rattle.layer_laws.specs.Apart.{IsApart}
 
 -- ---- what a place rests on in a world with other mounts
@@ -148,11 +149,6 @@ adds-mount w s k on apart m x =
     (λ same is. inr (same, subst (ApartIn (facts_of w)) (ap kind_or is) apart)) (λ is. inl is)
 
 -- ---- calls
-
-any : {A : Type 0} (m : Doing A) → Keeps Any AnyNeed m
-any (Go a) = found_so tt
-any (Refuse e) = refused
-any (Wants x) = needed tt
 
 module _ (w : World) where
   abbrev Fit : Outcome → Type 0

@@ -1,22 +1,21 @@
 -- What calls need leaves what unions show.
 use Rattle.std.proofs.Common.{◌≡◌, ◌==◌, ℕ, true, false, List, [], ◌∷◌, ◌++◌, refl, ap, sym, ◌∙◌, subst}
-use Rattle.std.specs.Prelude.{Option, Some, None, IsSome, option_map}
+use Rattle.std.specs.Prelude.{Option, Some, None, IsSome}
 use Rattle.std.specs.List.{list_any}
 use Rattle.std.specs.FinMap.{get}
 use Rattle.vfs_tree.specs.Child.{child_of, child_below, low}
 use Rattle.vfs_tree.specs.Edits.{made, new_dir}
-use Rattle.vfs_tree.specs.Layers.{kind_in, store_by, is_cut, is_dir_kind, root_of, stores}
+use Rattle.vfs_tree.specs.Layers.{kind_in, store_by, is_cut, root_of, stores}
 use Rattle.vfs_tree.specs.Place.{Seen}
-use Rattle.vfs_tree.specs.Shown.{shown_node, shown_at, shown}
-use Rattle.vfs_tree.specs.Shown as seen
+use Rattle.vfs_tree.specs.Shown.{shown_at, shown}
 use Rattle.vfs_tree.specs.Sound.{is_union, IsSound}
 use Rattle.vfs_tree.specs.Start.{start_world}
-use Rattle.vfs_tree.specs.Views.{kind_of_node, facts_of}
+use Rattle.vfs_tree.specs.Views.{facts_of}
 use Rattle.vfs_tree.specs.declared.limits.Limits.{Limits}
 use Rattle.vfs_tree.specs.declared.mount.MountKind.{MountKind}
 use Rattle.vfs_tree.specs.declared.mount.MountKind.TheVariants as kind
 use Rattle.vfs_tree.specs.declared.node.Node.{Node}
-use Rattle.vfs_tree.specs.declared.node.Node.TheVariants.{Dir, File, Link}
+use Rattle.vfs_tree.specs.declared.node.Node.TheVariants.{File}
 use Rattle.vfs_tree.specs.declared.walk.Child.{Child}
 use Rattle.vfs_tree.specs.declared.walk.Child.TheVariants as child
 use Rattle.vfs_tree.specs.declared.walk.Step.TheVariants.{Wants}
@@ -41,18 +40,13 @@ use Rattle.call_laws.proofs.WorldLaws.{sound_from_start, lasting_from_start}
 use Rattle.layer_laws.specs.Apart.{IsApart}
 use Rattle.layer_laws.proofs.ApartLaws.{apart_from_start}
 use Rattle.layer_laws.proofs.AvoidLaws.{Avoids, avoids, edit_hidden}
+use Rattle.layer_laws.proofs.TwinLaws.{dir_shown}
 use Rattle.layer_laws.proofs.UnionLaws.{shadow_root, copy_root}
 use Rattle.need_laws.specs.Lacking.{LacksDir, LacksFile}
 use Rattle.need_laws.specs.Showing.{ShowsAsBefore}
 use Rattle.need_laws.proofs.AboveLaws.{row_needs}
 use Rattle.need_laws.proofs.NeedRows.{CopyAt, row_need}
 use Rattle.need_laws.proofs.ShadowLaws.{ShadowAt, ShowsDir}
-
-dir_shown : (o : Option Node) → is_dir_kind (option_map kind_of_node o) ≡ true → option_map shown_node o ≡ Some seen.Dir
-dir_shown (Some (Dir parent opaque names)) e = refl
-dir_shown (Some (File bytes)) e = no_way e
-dir_shown (Some (Link target)) e = no_way e
-dir_shown None e = no_way e
 
 -- what a union is made of
 record IsUnion (o : Option MountKind) : Type 0 where

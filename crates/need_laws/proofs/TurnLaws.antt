@@ -39,13 +39,13 @@ use Rattle.call_laws.specs.Lasting.{IsLasting}
 use Rattle.call_laws.specs.Needing.{IsFree}
 use Rattle.call_laws.proofs.FlagLaws.{get_each}
 use Rattle.call_laws.proofs.FoundLaws.{IsGood, GoodChild, ReadyChild, good-child, ready-within}
-use Rattle.call_laws.proofs.MadeLaws.{IsFresh}
 use Rattle.call_laws.proofs.NamedLaws.{no_way}
 use Rattle.call_laws.proofs.PlaceLaws.{good_view}
 use Rattle.call_laws.proofs.SoundMade.{IsDirAt, dir_at}
 use Rattle.call_laws.proofs.SoundParts.{first_of, second_of, or_none}
 use Rattle.call_laws.proofs.Whole.{IsWhole}
 use Rattle.model_laws.proofs.FileLaws.{same_bytes}
+use Rattle.layer_laws.proofs.CopyTwins.{fresh_copy}
 use Rattle.layer_laws.proofs.LowerLaws.{Stands}
 use Rattle.layer_laws.proofs.MadeStores.{node_new, entry_new}
 use Rattle.layer_laws.proofs.NestLaws.{Under, child_from, nests-lower, child_looking, child_nests}
@@ -140,12 +140,6 @@ module _ (v : World) (a d b e n at : ℕ) (p q : Seen) (alike : AreOpenAlike v (
       ∙ sym (ap answer alike.other_at)
 
 -- ---- the copy
-
-fresh_copy : (u : ℕ) (o : Option Node) → IsFresh u (copy_of o)
-fresh_copy u (Some (File bytes)) = tt
-fresh_copy u (Some (Link target)) = tt
-fresh_copy u (Some (Dir parent opaque names)) = tt
-fresh_copy u None = tt
 
 copy_same : (o : Option Node) → is_dir_kind (option_map kind_of_node o) ≡ false → IsSome (option_map kind_of_node o) → Some (copy_of o) ≡ o
 copy_same (Some (File bytes)) plain known = refl

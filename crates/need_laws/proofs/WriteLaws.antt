@@ -37,7 +37,7 @@ use Rattle.vfs_tree.specs.declared.walk.NodeId.{NodeId}
 use Rattle.vfs_tree.specs.declared.walk.Step.TheVariants.{Go, Refuse, Wants}
 use Rattle.vfs_tree.specs.declared.world.World.{World}
 use Rattle.call_model.specs.Apply.{settle, apply}
-use Rattle.call_model.specs.Checks.{Doing, Outcome, is_full, upper_store, lifted, copied, place_at, mount_at, target_at, there, dir_at, free_target, node_of, has_white, edit_at, make_at}
+use Rattle.call_model.specs.Checks.{Outcome, is_full, upper_store, lifted, copied, place_at, mount_at, target_at, there, dir_at, free_target, node_of, has_white, edit_at, make_at}
 use Rattle.call_model.specs.DataRows as data_rows
 use Rattle.call_model.specs.Legal.{after, is_no_memory, world_after}
 use Rattle.call_model.specs.MountRows as mounts
@@ -56,13 +56,14 @@ use Rattle.call_model.specs.declared.target.Target.{Target}
 use Rattle.call_laws.specs.Lasting.{lower_mount, IsOver, IsLasting}
 use Rattle.call_laws.proofs.DataParts.{keeps-descriptor}
 use Rattle.call_laws.proofs.NamedLaws.{no_way}
-use Rattle.call_laws.proofs.Parts.{Keeps, Any, found_so, refused, needed, weaker, then, unless}
+use Rattle.call_laws.proofs.Parts.{Keeps, found_so, refused, needed, weaker, then, unless}
 use Rattle.call_laws.proofs.PlaceLaws.{well_at}
 use Rattle.call_laws.proofs.SoundParts.{first_of, second_of, is_so, or_none, number_or}
 use Rattle.call_laws.proofs.SoundRows.{AnyNeed}
 use Rattle.call_laws.proofs.WalkLaws.{IsTarget, FoundWell}
 use Rattle.call_laws.proofs.Whole.{IsWhole}
 use Rattle.model_laws.proofs.FuelLaws.{stores_mem, stores_null, stores_union}
+use Rattle.model_laws.proofs.Leaving.{any}
 use Rattle.layer_laws.specs.Apart.{IsApart}
 use Rattle.layer_laws.proofs.AvoidLaws.{mem_kind, same_base}
 use Rattle.need_laws.specs.Above.{is_lower_file, AreWrittenAbove}
@@ -97,12 +98,6 @@ bare_base f (UnionUp m i) = refl
 bare_base f (UnionLow m u n p) = refl
 
 -- ---- parts of calls
-
--- whatever a part comes to
-any : {A : Type 0} (m : Doing A) → Keeps Any AnyNeed m
-any (Go a) = found_so tt
-any (Refuse e) = refused
-any (Wants x) = needed tt
 
 -- a check at the end
 last : {P : Type 0} (b : Bool) (e : Errno) → P → Keeps (λ (u : Unit {0}). P) AnyNeed (refuse_if b e)
