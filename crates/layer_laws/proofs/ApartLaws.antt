@@ -106,25 +106,53 @@ ApartIn f kind.Mem = Unit {0}
 ApartIn f (kind.Null layer) = Unit {0}
 ApartIn f (kind.Union s u lower) = list_any (λ t. t == s) (stores f lower) ≡ false
 
--- each mount of the new world is one of the old one, or the next one and so
-abbrev Adds : World → World → Type 0
-Adds w v = (m : ℕ) (k : MountKind) → kind_in (facts_of v) m ≡ Some k → (kind_in (facts_of w) m ≡ Some k) ⊎ ((m ≡ w.next_mount) × ApartIn (facts_of w) k)
+-- a mount as it is before it is cut
+abbrev pub uncut : Mount → Mount
+uncut t = record t { cut = false }
+
+-- the mount was there, or is the next one and so, and isn't cut
+abbrev pub WasOrNext : World → ℕ → Mount → Type 0
+WasOrNext w m t = (option_map uncut (get w.mounts m) ≡ Some (uncut t)) ⊎ ((m ≡ w.next_mount) × ApartIn (facts_of w) t.kind × (t.cut ≡ false))
+
+-- each mount of the new world is one of the old one, but for whether it is cut, or the next one
+abbrev pub Adds : World → World → Type 0
+Adds w v = (m : ℕ) → IfSome (get v.mounts m) (WasOrNext w m)
+
+kind_uncut : (o : Option Mount) → option_map (λ (t : Mount). t.kind) (option_map uncut o) ≡ option_map (λ (t : Mount). t.kind) o
+kind_uncut (Some t) = refl
+kind_uncut None = refl
+
+-- its kind was there, or is that of the next one
+pub adds_kind : (w v : World) → Adds w v → (m : ℕ) (k : MountKind) → kind_in (facts_of v) m ≡ Some k → (kind_in (facts_of w) m ≡ Some k) ⊎ ((m ≡ w.next_mount) × ApartIn (facts_of w) k)
+adds_kind w v adds m k = by (get v.mounts m) (adds m)
+  where
+    by : (o : Option Mount) → IfSome o (WasOrNext w m) → option_map (λ (t : Mount). t.kind) o ≡ Some k → (kind_in (facts_of w) m ≡ Some k) ⊎ ((m ≡ w.next_mount) × ApartIn (facts_of w) k)
+    by (Some t) x is = elim x [
+      | inl old ↦ inl (sym (kind_uncut (get w.mounts m)) ∙ ap (option_map (λ (t : Mount). t.kind)) old ∙ is)
+      | inr new ↦ inr (new.0, subst (ApartIn (facts_of w)) (ap kind_or is) new.1)
+    ]
+    by None x is = absurd (let clash : None ≡ Some k = is in cc)
+
+-- the kinds of mounts whose numbers were given are those of before
+pub fewer_kinds : (w v : World) → Adds w v → (n : ℕ) (k : MountKind) → n < w.next_mount → kind_in (facts_of v) n ≡ Some k → kind_in (facts_of w) n ≡ Some k
+fewer_kinds w v adds n k less e = elim (adds_kind w v adds n k e) [ inl old ↦ old | inr new ↦ absurd (omega (arith, new.0, less)) ]
 
 apart_by : (w v : World) → IsWhole w → IsWhole v → Adds w v → IsApart w → IsApart v
 apart_by w v hw hv adds h m s u lower is =
     let under : mount_of lower < m = lower_less m (get v.mounts m) (mount_of lower) (hv.sound.view.smaller m) (ap lower_mount is) in
     let down : m < w.next_mount + 1 → list_any (λ t. t == s) (stores (facts_of w) lower) ≡ false → list_any (λ t. t == s) (stores (facts_of v) lower) ≡ false =
-    λ most apart. rests_fewer (facts_of w) (facts_of v) w.next_mount hv.sound.view.smaller fewer (λ t. t == s) (suc (mount_of lower)) (mount_of lower) (omega (arith, under, most)) apart in
-    elim (adds m (kind.Union s u lower) is) [
+    λ most apart. rests_fewer (facts_of w) (facts_of v) w.next_mount hv.sound.view.smaller (fewer_kinds w v adds) (λ t. t == s) (suc (mount_of lower)) (mount_of lower) (omega (arith, under, most)) apart in
+    elim (adds_kind w v adds m (kind.Union s u lower) is) [
       | inl old ↦ let there : m < w.next_mount = hw.lasts.counted.mounts m (mount_there (get w.mounts m) (ap is_some old)) in down (omega (arith, there)) (h m s u lower old)
       | inr new ↦ down (omega (arith, new.0)) new.1
     ]
-  where
-    fewer : (n : ℕ) (k : MountKind) → n < w.next_mount → kind_in (facts_of v) n ≡ Some k → kind_in (facts_of w) n ≡ Some k
-    fewer n k less e = elim (adds n k e) [ inl old ↦ old | inr new ↦ absurd (omega (arith, new.0, less)) ]
 
 adds-itself : (w : World) → Adds w w
-adds-itself w m k is = inl is
+adds-itself w m = by (get w.mounts m) refl
+  where
+    by : (o : Option Mount) → get w.mounts m ≡ o → IfSome o (WasOrNext w m)
+    by (Some t) is = inl (ap (option_map uncut) is)
+    by None is = tt
 
 adds-store : (f : Store → Store) (w v : World) (s : ℕ) (o : Option Store) → Adds w v → Adds w (with_store f v s o)
 adds-store f w v s (Some t) h = h
@@ -134,19 +162,17 @@ adds-edit : (w : World) (p : Seen) (edit : Store → ℕ → Store) → Adds w (
 adds-edit w p edit = let b = base (facts_of w) p in adds-store (λ t. edit t b.ino) w w b.store (get w.stores b.store) (adds-itself w)
 
 adds-remove : (w v : World) (m : ℕ) → v.mounts ≡ remove w.mounts m → Adds w v
-adds-remove w v m same n k is =
-    inl (by (eq_by_cmp nat_cmp n m) (sym (ap (option_map (λ (t : Mount). t.kind)) (ap (λ (x : FinMap nat_cmp Mount). get x n) same ∙ get-remove nat_cmp_total w.mounts m n)) ∙ is))
+adds-remove w v m same n =
+    subst (λ o. IfSome o (WasOrNext w n)) (sym (ap (λ (x : FinMap nat_cmp Mount). get x n) same ∙ get-remove nat_cmp_total w.mounts m n)) (by (eq_by_cmp nat_cmp n m))
   where
-    by : (b : Bool) → option_map (λ (t : Mount). t.kind) (cond b None (get w.mounts n)) ≡ Some k → kind_in (facts_of w) n ≡ Some k
-    by true e = absurd (let clash : None ≡ Some k = e in cc)
-    by false e = e
+    by : (b : Bool) → IfSome (cond b None (get w.mounts n)) (WasOrNext w n)
+    by true = tt
+    by false = adds-itself w n
 
 adds-mount : (w : World) (s : FinMap nat_cmp Store) (k : MountKind) (on : Seen) → ApartIn (facts_of w) k → Adds w (mounts.with_mount (record w { stores = s }) k on)
-adds-mount w s k on apart m x =
+adds-mount w s k on apart m =
     let t : Mount = record { number = w.next_mount; kind = k; on = Some on; cut = false } in
-    by_key nat_cmp_total exact_unsigned w.mounts w.next_mount t m
-    (λ o. option_map (λ (t : Mount). t.kind) o ≡ Some x → (kind_in (facts_of w) m ≡ Some x) ⊎ ((m ≡ w.next_mount) × ApartIn (facts_of w) x))
-    (λ same is. inr (same, subst (ApartIn (facts_of w)) (ap kind_or is) apart)) (λ is. inl is)
+    by_key nat_cmp_total exact_unsigned w.mounts w.next_mount t m (λ o. IfSome o (WasOrNext w m)) (λ same. inr (same, apart, refl)) (adds-itself w m)
 
 -- ---- calls
 
@@ -337,11 +363,11 @@ module _ (w : World) where
   adds-copied m u n (child.Need x) = adds-made m u n (File [])
 
   adds-detached : (c m : ℕ) → Adds w (detached w c m)
-  adds-detached c m n k is = inl (by (get w.mounts n) (sym (ap (option_map (λ (t : Mount). t.kind)) (get_each nat_cmp_total (cut_with w.mounts m) w.mounts n)) ∙ is))
+  adds-detached c m n = subst (λ o. IfSome o (WasOrNext w n)) (sym (get_each nat_cmp_total (cut_with w.mounts m) w.mounts n)) (by (get w.mounts n) refl)
     where
-      by : (o : Option Mount) → option_map (λ (t : Mount). t.kind) (option_map (cut_with w.mounts m) o) ≡ Some k → option_map (λ (t : Mount). t.kind) o ≡ Some k
-      by (Some t) e = e
-      by None e = e
+      by : (o : Option Mount) → get w.mounts n ≡ o → IfSome (option_map (cut_with w.mounts m) o) (WasOrNext w n)
+      by (Some t) is = inl (ap (option_map uncut) is)
+      by None is = tt
 
   adds-doomed : (o : Option Seen) → Adds w (doomed_place w o)
   adds-doomed (Some p) = adds-itself w
@@ -360,21 +386,6 @@ apart_start limits m s u lower =
     only 0 root_mount m (λ o. option_map (λ (t : Mount). t.kind) o ≡ Some (kind.Union s u lower) → list_any (λ t. t == s) (stores (facts_of (start_world limits)) lower) ≡ false)
     (λ same is. absurd (let clash : Some kind.Mem ≡ Some (kind.Union s u lower) = is in cc)) (λ is. absurd (let clash : None ≡ Some (kind.Union s u lower) = is in cc))
 
--- a sound world that lasts, whose unions are so
-record IsLayered (w : World) : Type 0 where
-  pub whole : IsWhole w
-  pub apart : IsApart w
-
-layered-call : (w : World) (c : ℕ) (x : Call) (r : Reply) → IsLayered w → IsLayered (after w (entry.Call c x r))
-layered-call w c x r h =
-    let v = whole-call w c r h.whole x in
-    record { whole = v; apart = apart_by w (after w (entry.Call c x r)) h.whole v (adds-call w c x r) h.apart }
-
-layered-needed : (w : World) (c : ℕ) (x : Call) (i : Inner) → row w c x ≡ Wants i → IsLayered w → IsLayered (effect w c i)
-layered-needed w c x i needs h =
-    let v = whole-needed w c x i needs h.whole in
-    record { whole = v; apart = apart_by w (effect w c i) h.whole v (adds-inner w c i) h.apart }
-
 abbrev need_or : Applied → Inner → Inner
 need_or (Needs x) y = x
 need_or (Finished w r) y = y
@@ -384,28 +395,39 @@ row_needs w (Go y) x e = absurd cc
 row_needs w (Refuse y) x e = absurd cc
 row_needs w (Wants y) x e = ap Wants (ap (λ a. need_or a y) e)
 
-layered-entry : (w : World) (c : ℕ) (o : Option Call) (x : Inner) → IsNeeded w c o x → IsLayered w → IsLayered (effect w c x)
-layered-entry w c (Some call) x needs h = layered-needed w c call x (row_needs w (row w c call) x needs) h
-layered-entry w c None x needs h = absurd needs
+-- what is kept where mounts are added so is kept by calls, by what they need, and by histories
+module _ (A : World → Type 0) (grow : (w v : World) → IsWhole w → IsWhole v → Adds w v → A w → A v) where
+  pub kept_call : (w : World) (c : ℕ) (x : Call) (r : Reply) → IsWhole w → A w → A (after w (entry.Call c x r))
+  kept_call w c x r h = grow w (after w (entry.Call c x r)) h (whole-call w c r h x) (adds-call w c x r)
 
-layered-history : (p : Pending) (doomers : List ℕ) (w : World) (es : List Entry) → IsLegalFrom p doomers w es → IsLayered w → IsLayered (replay w es)
-layered-history p doomers w [] legal h = h
-layered-history p doomers w (entry.Call c call r ∷ es) legal h =
-    layered-history p (doomers_after doomers (entry.Call c call r)) (after w (entry.Call c call r)) es legal.1 (layered-call w c call r h)
-layered-history p doomers w (entry.Inner c x ∷ es) legal h =
-    layered-history p (doomers_after doomers (entry.Inner c x)) (effect w c x) es legal.1 (layered-entry w c (next_call p c es) x legal.0 h)
+  pub kept_needed : (w : World) (c : ℕ) (x : Call) (i : Inner) → row w c x ≡ Wants i → IsWhole w → A w → A (effect w c i)
+  kept_needed w c x i needs h = grow w (effect w c i) h (whole-needed w c x i needs h) (adds-inner w c i)
 
-layered : (w : World) → IsSound w → IsLasting w → IsApart w → IsLayered w
-layered w s l a = record { whole = record { sound = s; lasts = l }; apart = a }
+  kept_entry : (w : World) (c : ℕ) (o : Option Call) (x : Inner) → IsNeeded w c o x → IsWhole w → A w → IsWhole (effect w c x) × A (effect w c x)
+  kept_entry w c (Some call) x needs h a = let is = row_needs w (row w c call) x needs in (whole-needed w c call x is h, kept_needed w c call x is h a)
+  kept_entry w c None x needs h a = absurd needs
+
+  kept_from : (p : Pending) (doomers : List ℕ) (w : World) (es : List Entry) → IsLegalFrom p doomers w es → IsWhole w → A w → A (replay w es)
+  kept_from p doomers w [] legal h a = a
+  kept_from p doomers w (entry.Call c call r ∷ es) legal h a =
+      kept_from p (doomers_after doomers (entry.Call c call r)) (after w (entry.Call c call r)) es legal.1 (whole-call w c r h call) (kept_call w c call r h a)
+  kept_from p doomers w (entry.Inner c x ∷ es) legal h a =
+      let next = kept_entry w c (next_call p c es) x legal.0 h a in kept_from p (doomers_after doomers (entry.Inner c x)) (effect w c x) es legal.1 next.0 next.1
+
+  pub kept_history : (p : Pending) (w : World) (es : List Entry) → IsLegal p w es → IsWhole w → A w → A (replay w es)
+  kept_history p = kept_from p []
+
+pub whole : (w : World) → IsSound w → IsLasting w → IsWhole w
+whole w s l = record { sound = s; lasts = l }
 
 pub apart_call : (w : World) (c : ℕ) (call : Call) (r : Reply) → IsSound w → IsLasting w → IsApart w → IsApart (after w (entry.Call c call r))
-apart_call w c call r s l a = (layered-call w c call r (layered w s l a)).apart
+apart_call w c call r s l = kept_call IsApart apart_by w c call r (whole w s l)
 
 pub apart_needed : (w : World) (c : ℕ) (call : Call) (x : Inner) → row w c call ≡ Wants x → IsSound w → IsLasting w → IsApart w → IsApart (effect w c x)
-apart_needed w c call x needs s l a = (layered-needed w c call x needs (layered w s l a)).apart
+apart_needed w c call x needs s l = kept_needed IsApart apart_by w c call x needs (whole w s l)
 
 pub apart_history : (p : Pending) (w : World) (es : List Entry) → IsLegal p w es → IsSound w → IsLasting w → IsApart w → IsApart (replay w es)
-apart_history p w es legal s l a = (layered-history p [] w es legal (layered w s l a)).apart
+apart_history p w es legal s l = kept_history IsApart apart_by p w es legal (whole w s l)
 
 pub apart_from_start : (limits : Limits) (p : Pending) (es : List Entry) → IsLegal p (start_world limits) es → IsApart (replay (start_world limits) es)
 apart_from_start limits p es legal = apart_history p (start_world limits) es legal (sound-start limits) (lasting-start limits) (apart_start limits)

@@ -2,6 +2,7 @@ pub mod LowerLaws
 pub mod NestLaws
 pub mod NullLaws
 pub mod ApartLaws
+pub mod LyingLaws
 pub mod AvoidLaws
 pub mod WayLaws
 pub mod MadeStores

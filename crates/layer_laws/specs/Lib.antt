@@ -2,3 +2,4 @@ pub mod Apart
 pub mod OpenFiles
 pub mod Deepest
 pub mod Listings
+pub mod Lying

@@ -107,6 +107,19 @@ referred_stay w c n text r refers =
     after_umount (λ v. get v.mounts n ≡ get w.mounts n) w c text r refl
     (λ m _ free. other_mount w.mounts m n (λ same. no_way (sym free ∙ ap (has_references w) (sym same) ∙ refers)))
 
+-- each mount that is there was there
+pub mount_was : (w : World) (c : ℕ) (text : List ℕ) (r : Reply) (m : ℕ) → IfSome (get (after w (entry.Call c (call.Umount text) r)).mounts m) (λ t. get w.mounts m ≡ Some t)
+mount_was w c text r m = after_umount (λ v. IfSome (get v.mounts m) (λ t. get w.mounts m ≡ Some t)) w c text r (itself (get w.mounts m)) (λ n _ _.
+    subst (λ o. IfSome o (λ t. get w.mounts m ≡ Some t)) (sym (get-remove nat_cmp_total w.mounts n m)) (by (eq_by_cmp nat_cmp m n)))
+  where
+    itself : (o : Option Mount) → IfSome o (λ t. o ≡ Some t)
+    itself (Some t) = refl
+    itself None = tt
+
+    by : (b : Bool) → IfSome (cond b None (get w.mounts m)) (λ t. get w.mounts m ≡ Some t)
+    by true = tt
+    by false = itself (get w.mounts m)
+
 module _ (w v : World) (fewer : Fewer w v) where
   same_kind : (m : ℕ) (o : Option MountKind) → kind_in (facts_of v) m ≡ o → is_union o ≡ true → kind_in (facts_of w) m ≡ o
   same_kind m (Some k) is h = fewer.kinds m k is
