@@ -7,3 +7,5 @@ pub mod FoundNeeds
 pub mod NeedRows
 pub mod NeededShown
 pub mod SeenLaws
+pub mod FindLaws
+pub mod LeftLaws

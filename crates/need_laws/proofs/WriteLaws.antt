@@ -569,7 +569,7 @@ module _ (w : World) (sound : IsSound w) (s : ℕ) where
   upper_rests m i (Some (kind.Null layer)) is union none = no_way union
   upper_rests m i None is union none = no_way union
 
-  other_store : (p : Seen) → names_mounts f p ≡ true → IsOver f p → Rests p → ((base f p).store == s) ≡ false
+  pub other_store : (p : Seen) → names_mounts f p ≡ true → IsOver f p → Rests p → ((base f p).store == s) ≡ false
   other_store (Mem m i) names over none =
       (or_none (m == s) false (subst (λ (ss : List ℕ). list_any (λ t. t == s) ss ≡ false) (stores_mem w (Mem m i) (mem_kind (kind_in f m) names)) none)).0
   other_store (Null m p) names over none =

@@ -8,10 +8,14 @@ use Rattle.vfs_tree.specs.Sound.{names_mounts}
 use Rattle.vfs_tree.specs.Views.{facts_of}
 use Rattle.vfs_tree.specs.declared.walk.Found.{Found}
 use Rattle.vfs_tree.specs.declared.walk.Found.TheVariants as found
+use Rattle.vfs_tree.specs.declared.walk.NodeId.{NodeId}
 use Rattle.vfs_tree.specs.declared.world.World.{World}
+use Rattle.call_model.specs.Checks.{upper_store}
 use Rattle.call_model.specs.Rows.{first_found, second_found}
 use Rattle.call_model.specs.declared.call.Call.{Call}
 use Rattle.call_model.specs.declared.call.Call.TheVariants as call
+use Rattle.call_model.specs.declared.entry.Inner.{Inner}
+use Rattle.call_model.specs.declared.entry.Inner.TheVariants.{Shadow, CopyUp, Detach, Doom}
 use Rattle.call_laws.specs.Lasting.{IsOver}
 use Rattle.need_laws.specs.Above.{is_lower_file}
 
@@ -61,3 +65,12 @@ pub record IsInLayer (f : Facts) (layer p : Seen) : Type 0 where
   pub mount : mount_of p ≡ mount_of layer
   pub names : names_mounts f p ≡ true
   pub over : IsOver f p
+
+-- ---- what an inner entry changes
+
+-- the directory in which an inner entry makes a name, where it makes one
+abbrev pub named_in : World → Inner → Option NodeId
+named_in w (Shadow m u n) = Some (record { store = upper_store w m; ino = u })
+named_in w (CopyUp m u n) = Some (record { store = upper_store w m; ino = u })
+named_in w (Detach m) = None
+named_in w (Doom at) = None

@@ -3,3 +3,4 @@ pub mod Changed
 pub mod Turning
 pub mod Lacking
 pub mod Showing
+pub mod Finding

@@ -1,6 +1,6 @@
-ghost use Rattle.std.specs.Prelude.{◌≡◌, ℕ, List, Some, true};
+ghost use Rattle.std.specs.Prelude.{◌≡◌, ℕ, IfSome, IsSome, List, Some, false, true};
 ghost use Rattle.std.specs.FinMap.{get};
-ghost use Rattle.vfs_tree.specs.Layers.{kind_in};
+ghost use Rattle.vfs_tree.specs.Layers.{base, is_dir, kind_in, kind_of, same_node};
 ghost use Rattle.vfs_tree.specs.Place.{Seen, UnionUp, bare};
 ghost use Rattle.vfs_tree.specs.Sound.{IsSound};
 ghost use Rattle.vfs_tree.specs.Start.{start_world};
@@ -15,11 +15,12 @@ ghost use Rattle.call_model.specs.declared.call.Call.{Call};
 ghost use Rattle.call_model.specs.declared.entry.Entry.{Entry};
 ghost use Rattle.call_model.specs.declared.entry.Entry.TheVariants as entry;
 ghost use Rattle.call_model.specs.declared.entry.Inner.{Inner};
+ghost use Rattle.call_model.specs.declared.entry.Inner.TheVariants.{CopyUp, Shadow};
 ghost use Rattle.call_model.specs.declared.reply.Reply.{Reply};
 ghost use Rattle.call_laws.specs.Lasting.{IsLasting};
 ghost use Rattle.layer_laws.specs.Apart.{IsApart};
 ghost use Rattle.need_laws.specs.Above.{AreWrittenAbove, is_lower_file};
-ghost use Rattle.need_laws.specs.Changed.{ChangesAbove, IsInLayer, changed_place};
+ghost use Rattle.need_laws.specs.Changed.{ChangesAbove, IsInLayer, changed_place, named_in};
 
 /// A file that is open for writing, dead or not, is never one of a union's lower layer alone: a law of the model, with no
 /// code.
@@ -57,4 +58,28 @@ pub fn calls_change_nodes_above()
         → kind_in (facts_of w) m ≡ Some (kind.Union s top lower)
         → changed_place w c call ≡ Some p → bare p ≡ UnionUp m i → IsInLayer (facts_of w) lower q
         → node_of (after w (entry.Call c call r)) q ≡ node_of w q }
+{}
+
+/// Inner entries change no node of a lower layer: a law of the model, with no code. A shadow directory and a copy are
+/// made in the upper layer of their union, be it cut off or not.
+pub fn inner_entries_change_nodes_above()
+    // A shadow directory leaves each node that is seen in its union's lower layer, also where forced unmounts have cut
+    // off the union or mounts of that layer,
+    ensures shadow { (w : World) (c m s top u : ℕ) (lower q : Seen) (n : List ℕ)
+        → IsSound w → IsApart w → kind_in (facts_of w) m ≡ Some (kind.Union s top lower) → IsInLayer (facts_of w) lower q
+        → node_of (effect w c (Shadow m u n)) q ≡ node_of w q }
+    // and so does a copy-up.
+    ensures copy { (w : World) (c m s top u : ℕ) (lower q : Seen) (n : List ℕ)
+        → IsSound w → IsApart w → kind_in (facts_of w) m ≡ Some (kind.Union s top lower) → IsInLayer (facts_of w) lower q
+        → node_of (effect w c (CopyUp m u n)) q ≡ node_of w q }
+    // In all other mounts too each inner entry leaves each node that is there, but the directory in which it makes a
+    // name: another union may have that one in its lower layer.
+    ensures others { (w : World) (c : ℕ) (x : Inner) (q : Seen)
+        → IsLasting w → IsSome (kind_of (facts_of w) q)
+        → IfSome (named_in w x) (λ d. same_node (base (facts_of w) q) d ≡ false)
+        → node_of (effect w c x) q ≡ node_of w q }
+    // So it leaves each file and each link.
+    ensures files { (w : World) (c : ℕ) (x : Inner) (q : Seen)
+        → IsLasting w → IsSome (kind_of (facts_of w) q) → is_dir (facts_of w) q ≡ false
+        → node_of (effect w c x) q ≡ node_of w q }
 {}
