@@ -1,5 +1,5 @@
--- What a call leaves of the open files of others, and of the mounts.
-use Rattle.std.proofs.Common.{◌≡◌, ℕ, ℤ, ◌⊎◌, inl, inr, Bool, true, false, cond, not, ◌+◌, ◌==◌, List, [], ◌∷◌, length, refl, ap, sym, ◌∙◌, eq-eqb, nat_cmp}
+-- What a call leaves of the open files, its caller's and those of others, and of the mounts.
+use Rattle.std.proofs.Common.{◌≡◌, ℕ, ℤ, ◌⊎◌, inl, inr, Bool, true, false, cond, not, ◌+◌, ◌==◌, List, [], ◌∷◌, length, refl, ap, sym, ◌∙◌, subst, eq-eqb, nat_cmp}
 use Rattle.std.specs.Prelude.{Option, Some, None, ◌&&◌, ◌+ℤ◌, pos, nat_lt, option_map}
 use Rattle.std.specs.Cmp.{nat_cmp_total}
 use Rattle.std.specs.FinMap.{FinMap, get, insert, remove, len, get-remove}
@@ -45,11 +45,14 @@ use Rattle.call_model.specs.declared.entry.Entry.TheVariants as entry
 use Rattle.call_model.specs.declared.entry.Ref.{Ref}
 use Rattle.call_model.specs.declared.reply.Reply.{Reply}
 use Rattle.call_model.specs.declared.target.Target.{Target}
+use Rattle.call_laws.proofs.DataParts.{keeps-descriptor}
 use Rattle.call_laws.proofs.NamedLaws.{no_way}
 use Rattle.call_laws.proofs.Parts.{Keeps, found_so, refused, needed, weaker, then, unless}
 use Rattle.call_laws.proofs.SoundRows.{LeavesSo, AnyNeed}
 use Rattle.call_laws.proofs.WeightLaws.{equal}
 use Rattle.model_laws.proofs.Leaving.{past, left-so}
+use Rattle.fuel_laws.specs.Staying.{StaysButOffset}
+use Rattle.fuel_laws.proofs.OpenLaws.{first_free}
 
 -- ---- mounts
 
@@ -73,9 +76,10 @@ pub record IsAdded (w : World) (m : ℕ) (o : Option Mount) : Type 0 where
 abbrev pub Grown : World → ℕ → Option Mount → Type 0
 Grown w m o = ((kind_by o ≡ None) ⊎ (kind_by o ≡ kind_in (facts_of w) m)) ⊎ IsAdded w m o
 
--- the open files of others are as they were, and mounts have grown so
+-- the open files of others are as they were, what stays open is as it was but for its offset, and mounts have grown so
 pub record Apart (c : ℕ) (w v : World) : Type 0 where
   pub opens : (k : ℕ × ℕ) → (k.0 == c) ≡ false → get v.opens k ≡ get w.opens k
+  pub stays : (k : ℕ × ℕ) → StaysButOffset (get w.opens k) (get v.opens k)
   pub mounts : (m : ℕ) → Grown w m (get v.mounts m)
 
 -- ---- what changes neither
@@ -202,15 +206,42 @@ revoke w a = past (place_at w a) (λ p. unless (not (is_file (facts_of w) p)) _ 
 
 -- ---- what changes one of them
 
+same_open : (o : Option Open) → StaysButOffset o o
+same_open (Some x) = (refl, refl, refl)
+same_open None = tt
+
+same_opens : (w v : World) → Same w v → (k : ℕ × ℕ) → StaysButOffset (get w.opens k) (get v.opens k)
+same_opens w v h k = subst (λ m. StaysButOffset (get w.opens k) (get m k)) (sym h.0) (same_open (get w.opens k))
+
 pub apart : (c : ℕ) (w v : World) → Same w v → Apart c w v
-apart c w v h = record { opens = λ k _. ap (λ m. get m k) h.0; mounts = λ m. inl (inr (ap (λ (x : Mounts). kind_by (get x m)) h.1)) }
+apart c w v h = record { opens = λ k _. ap (λ m. get m k) h.0; stays = same_opens w v h; mounts = λ m. inl (inr (ap (λ (x : Mounts). kind_by (get x m)) h.1)) }
 
 -- a descriptor is set
-set : (c d : ℕ) (w v : World) (o : Open) → Same w v → Apart c w (rows.with_open v c d o)
-set c d w v o h = record {
+set : (c d : ℕ) (w v : World) (o : Open) → StaysButOffset (get w.opens (c, d)) (Some o) → Same w v → Apart c w (rows.with_open v c d o)
+set c d w v o its h = record {
   opens = λ k other. by_key pair_total pair_exact v.opens (c, d) o k (λ x. x ≡ get w.opens k) (λ is. no_way (sym other ∙ eq-eqb k.0 c (ap (λ (x : ℕ × ℕ). x.0) is))) (ap (λ m. get m k) h.0);
+  stays = λ k. by_key pair_total pair_exact v.opens (c, d) o k (StaysButOffset (get w.opens k)) (λ is. subst (λ q. StaysButOffset (get w.opens q) (Some o)) (sym is) its) (same_opens w v h k);
   mounts = λ m. inl (inr (ap (λ (x : Mounts). kind_by (get x m)) h.1));
 }
+
+-- a free one is set, or the offset of one that is open
+opened : (c d : ℕ) (w v : World) (o : Open) → get w.opens (c, d) ≡ None → Same w v → Apart c w (rows.with_open v c d o)
+opened c d w v o free h = set c d w v o (subst (λ x. StaysButOffset x (Some o)) (sym free) tt) h
+
+moved : (c d : ℕ) (w v : World) (o : Open) (n : ℕ) → get w.opens (c, d) ≡ Some o → Same w v → Apart c w (rows.with_offset v c d o n)
+moved c d w v o n at h = set c d w v (record o { offset = n }) (subst (λ x. StaysButOffset x (Some (record o { offset = n }))) (sym at) (refl, refl, refl)) h
+
+-- what a descriptor is open at
+at_descriptor : (w : World) (c d : ℕ) → Keeps (λ o. get w.opens (c, d) ≡ Some o) AnyNeed (rows.descriptor w c d)
+at_descriptor w c d = weaker (rows.descriptor w c d) (λ _ h. h) (λ _ _. tt) (keeps-descriptor w c d)
+
+gone_open : (b : Bool) (o : Option Open) → StaysButOffset o (cond b None o)
+gone_open true (Some x) = tt
+gone_open true None = tt
+gone_open false o = same_open o
+
+closed : (w : World) (c d : ℕ) (k : ℕ × ℕ) → StaysButOffset (get w.opens k) (get (remove w.opens (c, d)) k)
+closed w c d k = subst (StaysButOffset (get w.opens k)) (sym (get-remove pair_total w.opens (c, d) k)) (gone_open (eq_by_cmp pair_cmp k (c, d)) (get w.opens k))
 
 still_open : (x : FinMap pair_cmp Open) (c d : ℕ) (k : ℕ × ℕ) → (k.0 == c) ≡ false → get (remove x (c, d)) k ≡ get x k
 still_open x c d k other =
@@ -243,7 +274,7 @@ module _ (c : ℕ) where
   -- mounts
 
   mount_mem : (w : World) (a : Found) → Parts w (mounts.mount_mem w a)
-  mount_mem w a = past (dir_at w a) (λ on. past (mounts.check_mounts w) (λ _. found_so (record { opens = λ k _. refl; mounts = λ n. added w kind.Mem on n tt })))
+  mount_mem w a = past (dir_at w a) (λ on. past (mounts.check_mounts w) (λ _. found_so (record { opens = λ k _. refl; stays = λ k. same_open (get w.opens k); mounts = λ n. added w kind.Mem on n tt })))
 
   mount_null : (w : World) (a b : Found) → Parts w (mounts.mount_null w a b)
   mount_null w a b =
@@ -251,7 +282,7 @@ module _ (c : ℕ) where
       past (dir_at w b) (λ on.
       unless (same_place layer on) _ (λ _.
       unless (depth (facts_of w) layer == mounts.most_depth) _ (λ shallow.
-      past (mounts.check_mounts w) (λ _. found_so (record { opens = λ k _. refl; mounts = λ n. added w (kind.Null layer) on n shallow }))))))
+      past (mounts.check_mounts w) (λ _. found_so (record { opens = λ k _. refl; stays = λ k. same_open (get w.opens k); mounts = λ n. added w (kind.Null layer) on n shallow }))))))
 
   mount_union : (w : World) (a b : Found) → Parts w (mounts.mount_union w a b)
   mount_union w a b =
@@ -260,14 +291,14 @@ module _ (c : ℕ) where
       past (mounts.upper_of up) (λ upper.
       unless (list_any (λ s. s == upper.store) (stores (facts_of w) on)) _ (λ _.
       unless (depth (facts_of w) on == mounts.most_depth) _ (λ shallow.
-      past (mounts.check_mounts w) (λ _. found_so (record { opens = λ k _. refl; mounts = λ n. added w (kind.Union upper.store upper.ino on) on n shallow })))))))
+      past (mounts.check_mounts w) (λ _. found_so (record { opens = λ k _. refl; stays = λ k. same_open (get w.opens k); mounts = λ n. added w (kind.Union upper.store upper.ino on) on n shallow })))))))
 
   umount : (w : World) (a : Found) → Parts w (mounts.umount w a)
-  umount w a = past (mount_at w a) (λ m. unless (m == 0) _ (λ _. unless (has_references w m) _ (λ _. found_so (record { opens = λ k _. refl; mounts = gone w m }))))
+  umount w a = past (mount_at w a) (λ m. unless (m == 0) _ (λ _. unless (has_references w m) _ (λ _. found_so (record { opens = λ k _. refl; stays = λ k. same_open (get w.opens k); mounts = gone w m }))))
 
   doom_next : (w : World) (m : ℕ) (o : Option Ref) → Parts w (mounts.doom_next w c m o)
   doom_next w m (Some at) = needed tt
-  doom_next w m None = found_so (record { opens = λ k _. refl; mounts = gone w m })
+  doom_next w m None = found_so (record { opens = λ k _. refl; stays = λ k. same_open (get w.opens k); mounts = gone w m })
 
   umount_by : (w : World) (a : Found) (o : Option ℕ) → Parts w (mounts.umount_by w c a o)
   umount_by w a (Some m) = doom_next w m (first_in w m)
@@ -276,43 +307,43 @@ module _ (c : ℕ) where
   -- descriptors
 
   close : (w : World) (d : ℕ) → Parts w (rows.close w c d)
-  close w d = past (rows.descriptor w c d) (λ o. found_so (record { opens = λ k other. still_open w.opens c d k other; mounts = λ m. inl (inr refl) }))
+  close w d = past (rows.descriptor w c d) (λ o. found_so (record { opens = λ k other. still_open w.opens c d k other; stays = closed w c d; mounts = λ m. inl (inr refl) }))
 
   read : (w : World) (d n : ℕ) → Parts w (rows.read w c d n)
-  read w d n = past (rows.descriptor w c d) (λ o. past (rows.check_read w o n) (λ _. found_so (set c d w w _ (refl, refl))))
+  read w d n = then (rows.descriptor w c d) (at_descriptor w c d) (λ o at. past (rows.check_read w o n) (λ _. found_so (moved c d w w o _ at (refl, refl))))
 
   lseek : (w : World) (d : ℕ) (x : Whence) (i : ℤ) → Parts w (rows.lseek w c d x i)
   lseek w d x i =
-      past (rows.descriptor w c d) (λ o. unless o.dead _ (λ _. past (rows.offset_of (pos (rows.seek_from w o x) +ℤ i)) (λ at. found_so (set c d w w _ (refl, refl)))))
+      then (rows.descriptor w c d) (at_descriptor w c d) (λ o is. unless o.dead _ (λ _. past (rows.offset_of (pos (rows.seek_from w o x) +ℤ i)) (λ at. found_so (moved c d w w o _ is (refl, refl)))))
 
-  write_some : (w : World) (d : ℕ) (o : Open) (bytes : List ℕ) → Parts w (rows.write_some w c d o bytes)
-  write_some w d o [] = found_so (apart c w w (refl, refl))
-  write_some w d o (b ∷ bs) =
-      then (rows.write_at w o (rows.write_to w o o.offset) (b ∷ bs)) (write_at w o (rows.write_to w o o.offset) (b ∷ bs)) (λ new h. found_so (set c d w new.0 _ h))
+  write_some : (w : World) (d : ℕ) (o : Open) (bytes : List ℕ) → get w.opens (c, d) ≡ Some o → Parts w (rows.write_some w c d o bytes)
+  write_some w d o [] at = found_so (apart c w w (refl, refl))
+  write_some w d o (b ∷ bs) at =
+      then (rows.write_at w o (rows.write_to w o o.offset) (b ∷ bs)) (write_at w o (rows.write_to w o o.offset) (b ∷ bs)) (λ new h. found_so (moved c d w new.0 o _ at h))
 
   write : (w : World) (d : ℕ) (bytes : List ℕ) → Parts w (rows.write w c d bytes)
-  write w d bytes = past (rows.descriptor w c d) (λ o. past (rows.check_write o bytes) (λ _. write_some w d o bytes))
+  write w d bytes = then (rows.descriptor w c d) (at_descriptor w c d) (λ o at. past (rows.check_write o bytes) (λ _. write_some w d o bytes at))
 
-  open_there : (w : World) (fd : ℕ) (f : Flags) (p : Seen) → Parts w (rows.open_there w c fd f p)
-  open_there w fd f p =
+  open_there : (w : World) (fd : ℕ) (f : Flags) (p : Seen) → get w.opens (c, fd) ≡ None → Parts w (rows.open_there w c fd f p)
+  open_there w fd f p free =
       unless (is_dir (facts_of w) p && rows.writes f.access) _ (λ _.
       unless (not (is_dir (facts_of w) p) && f.dir) _ (λ _.
-      past (rows.copied_for (rows.writes f.access) w p) (λ _. found_so (set c fd w (rows.cut_to f.cut w p) _ (cut_to f.cut w p)))))
+      past (rows.copied_for (rows.writes f.access) w p) (λ _. found_so (opened c fd w (rows.cut_to f.cut w p) _ free (cut_to f.cut w p)))))
 
-  open_found : (w : World) (fd : ℕ) (f : Flags) (a : Found) → Parts w (rows.open_found w c fd f a)
-  open_found w fd f (found.At p) = open_there w fd f p
-  open_found w fd f (found.In d n None) = then (make_at w d n (File [])) (make w d n (File [])) (λ new h. found_so (set c fd w new _ h))
-  open_found w fd f (found.In d n (Some p)) = refused
-  open_found w fd f (found.Dot d) = refused
-  open_found w fd f (found.Mount m) = refused
-  open_found w fd f (found.Refused e) = refused
-  open_found w fd f (found.Need x) = unless (is_full w (upper_store w x.mount)) _ (λ _. needed tt)
+  open_found : (w : World) (fd : ℕ) (f : Flags) (a : Found) → get w.opens (c, fd) ≡ None → Parts w (rows.open_found w c fd f a)
+  open_found w fd f (found.At p) free = open_there w fd f p free
+  open_found w fd f (found.In d n None) free = then (make_at w d n (File [])) (make w d n (File [])) (λ new h. found_so (opened c fd w new _ free h))
+  open_found w fd f (found.In d n (Some p)) free = refused
+  open_found w fd f (found.Dot d) free = refused
+  open_found w fd f (found.Mount m) free = refused
+  open_found w fd f (found.Refused e) free = refused
+  open_found w fd f (found.Need x) free = unless (is_full w (upper_store w x.mount)) _ (λ _. needed tt)
 
   open_file : (w : World) (f : Flags) (a : Found) → Parts w (rows.open_file w c f a)
   open_file w f a =
       unless (not (rows.are_flags f)) _ (λ _.
-      past (rows.free_descriptor w c) (λ fd.
-      unless (not (nat_lt (len w.opens) w.limits.files)) _ (λ _. open_found w fd f a)))
+      then (rows.free_descriptor w c) (first_free w c 32 0) (λ fd first.
+      unless (not (nat_lt (len w.opens) w.limits.files)) _ (λ _. open_found w fd f a first.free)))
 
   -- ---- all calls
 

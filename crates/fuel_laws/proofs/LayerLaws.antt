@@ -236,8 +236,11 @@ layered_from p doomers w (entry.Call c call r ∷ es) legal h layered =
 layered_from p doomers w (entry.Inner c x ∷ es) legal h layered =
     layered_from p (doomers_after doomers (entry.Inner c x)) (effect w c x) es legal.1 (whole_inner w c (next_call p c es) x legal.0 h) (layered_inner w c x layered)
 
+pub layered_on : (p : Pending) (w : World) (es : List Entry) → IsLegal p w es → IsSound w → IsLasting w → IsLayered w → IsLayered (replay w es)
+layered_on p w es legal sound lasts layered = layered_from p [] w es legal (record { sound = sound; lasts = lasts }) layered
+
 pub layered_history : (limits : Limits) (p : Pending) (es : List Entry) → IsLegal p (start_world limits) es → IsLayered (replay (start_world limits) es)
-layered_history limits p es legal = layered_from p [] (start_world limits) es legal (record { sound = sound-start limits; lasts = lasting-start limits }) (layered_start limits)
+layered_history limits p es legal = layered_on p (start_world limits) es legal (sound-start limits) (lasting-start limits) (layered_start limits)
 
 pub depth_history : (limits : Limits) (p : Pending) (es : List Entry) (q : Seen) → IsLegal p (start_world limits) es → depth (facts_of (replay (start_world limits) es)) q ≤ 4
 depth_history limits p es q legal = (layered_history limits p es legal).few q

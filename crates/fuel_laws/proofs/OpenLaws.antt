@@ -30,7 +30,7 @@ use Rattle.fuel_laws.specs.Lowest.{IsLowestFree, IsJustOpened}
 -- ---- free descriptors
 
 -- the first free one of so many from one on
-record IsFirst (w : World) (c d k fd : ℕ) : Type 0 where
+pub record IsFirst (w : World) (c d k fd : ℕ) : Type 0 where
   pub least : d ≤ fd
   pub most : fd < d + k
   pub free : get w.opens (c, fd) ≡ None
@@ -63,7 +63,7 @@ module _ (w : World) (c : ℕ) where
     taken = λ e from less. absurd (omega (arith, from, less));
   }
 
-  first_free : (k d : ℕ) → Keeps (IsFirst w c d k) AnyNeed (rows.free_from k w c d)
+  pub first_free : (k d : ℕ) → Keeps (IsFirst w c d k) AnyNeed (rows.free_from k w c d)
   first_free zero d = refused
   first_free (suc k) d =
       elim (is_some (get w.opens (c, d))) as (λ b. is_some (get w.opens (c, d)) ≡ b → Keeps (IsFirst w c d (suc k)) AnyNeed (rows.free_case (rows.free_from k w c (d + 1)) d b)) [

@@ -32,13 +32,16 @@ use Rattle.call_laws.specs.Fitting.{Fits}
 use Rattle.call_laws.proofs.FlagLaws.{get_each}
 use Rattle.call_laws.proofs.LiveLaws.{alone-made_above}
 use Rattle.call_laws.proofs.RowLaws.{row_fits}
-use Rattle.fuel_laws.specs.Staying.{StaysButPlace, StaysButDead, KeepsPlace}
+use Rattle.fuel_laws.specs.Staying.{StaysButPlace, StaysButDead, StaysButOffset, KeepsPlace}
 use Rattle.fuel_laws.proofs.ApartLaws.{apart_call}
 
 -- ---- calls
 
 pub others_open : (w : World) (c d fd : ℕ) (call : Call) (r : Reply) → (d == c) ≡ false → get (after w (entry.Call c call r)).opens (d, fd) ≡ get w.opens (d, fd)
 others_open w c d fd call r other = (apart_call c w call r).opens (d, fd) other
+
+pub stays_open : (w : World) (c : ℕ) (call : Call) (r : Reply) (k : ℕ × ℕ) → StaysButOffset (get w.opens k) (get (after w (entry.Call c call r)).opens k)
+stays_open w c call r k = (apart_call c w call r).stays k
 
 leaving_row : (w : World) (c d : ℕ) (call : Call) (o : Outcome) → Fits w c call o → (d == c) ≡ false → get (world_after w (settle w o)).leaving d ≡ get w.leaving d
 leaving_row w c d call (Go x) h other = h.others d other

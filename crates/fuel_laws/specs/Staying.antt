@@ -17,6 +17,13 @@ StaysButDead (Some old) None = ⊥
 StaysButDead None (Some new) = ⊥
 StaysButDead None None = Unit {0}
 
+-- all but its offset, where it is open before and after
+abbrev pub StaysButOffset : Option Open → Option Open → Type 0
+StaysButOffset (Some old) (Some new) = (new.place ≡ old.place) × (new.mode ≡ old.mode) × (new.dead ≡ old.dead)
+StaysButOffset (Some old) None = Unit {0}
+StaysButOffset None (Some new) = Unit {0}
+StaysButOffset None None = Unit {0}
+
 -- a current directory keeps its place
 abbrev pub KeepsPlace : Option Cwd → Option Cwd → Type 0
 KeepsPlace (Some old) (Some new) = new.place ≡ old.place

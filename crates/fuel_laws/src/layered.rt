@@ -28,7 +28,10 @@ pub fn mounts_stay_layered()
     // So every legal history from the start leaves such a world.
     ensures history { (limits : Limits) (p : Pending) (es : List Entry)
         → IsLegal p (start_world limits) es → IsLayered (replay (start_world limits) es) }
-    // In it a place has at most four layers under it.
+    // From a sound world that lasts, in which they are so, the same holds.
+    ensures history_on { (p : Pending) (w : World) (es : List Entry)
+        → IsLegal p w es → IsSound w → IsLasting w → IsLayered w → IsLayered (replay w es) }
+    // After every legal history from the start a place has at most four layers under it.
     ensures depth { (limits : Limits) (p : Pending) (es : List Entry) (q : Seen)
         → IsLegal p (start_world limits) es → depth (facts_of (replay (start_world limits) es)) q ≤ 4 }
 {}

@@ -20,8 +20,8 @@ pub use layered::mounts_stay_layered;
 pub use listing::visible_names_are_whole;
 pub use opening::open_answers_the_lowest_descriptor;
 pub use others::{
-    a_doom_keeps_current_directories, dooms_count_for_their_caller, inner_entries_keep_open_files,
-    others_keep_what_is_theirs,
+    a_call_keeps_what_is_open, a_doom_keeps_current_directories, dooms_count_for_their_caller,
+    inner_entries_keep_open_files, others_keep_what_is_theirs,
 };
 pub use pending::{an_entry_ends_its_own_call, histories_keep_each_callers_calls};
 pub use standing::{a_directory_is_below_all_above_it, a_mount_stands_on_all_below_it};

@@ -18,7 +18,7 @@ ghost use Rattle.call_model.specs.declared.entry.Inner.TheVariants.{CopyUp, Deta
 ghost use Rattle.call_model.specs.declared.entry.Ref.{Ref};
 ghost use Rattle.call_model.specs.declared.reply.Reply.{Reply};
 ghost use Rattle.fuel_laws.specs.Ended.{pending_after};
-ghost use Rattle.fuel_laws.specs.Staying.{KeepsPlace, StaysButDead, StaysButPlace};
+ghost use Rattle.fuel_laws.specs.Staying.{KeepsPlace, StaysButDead, StaysButOffset, StaysButPlace};
 
 /// What one caller's calls leave of what is another's: a law of the model, with no code.
 pub fn others_keep_what_is_theirs()
@@ -31,6 +31,14 @@ pub fn others_keep_what_is_theirs()
     // and its call is pending as before.
     ensures pending { (p : Pending) (c d : ℕ) (call : Call) (r : Reply)
         → (d == c) ≡ false → get (pending_after p (entry.Call c call r)) d ≡ get p d }
+{}
+
+/// What a call leaves of what is open, also for its own caller: a law of the model, with no code.
+pub fn a_call_keeps_what_is_open()
+    // A descriptor that is open before and after it stands for the same place, opened in the same way, and is dead only
+    // where it was. Reads, writes and seeks move its offset.
+    ensures { (w : World) (c : ℕ) (call : Call) (r : Reply) (k : ℕ × ℕ)
+        → StaysButOffset (get w.opens k) (get (after w (entry.Call c call r)).opens k) }
 {}
 
 /// What the inner entries of one caller leave of what is open: a law of the model, with no code.

@@ -1,4 +1,4 @@
-use Rattle.fuel_laws.proofs.LayerLaws.{layered_start, layered_call, layered_inner, layered_history, depth_history}
+use Rattle.fuel_laws.proofs.LayerLaws.{layered_start, layered_call, layered_inner, layered_history, layered_on, depth_history}
 use Rattle.fuel_laws.proofs.layered.mounts_stay_layered.Goals as goal
 
 pub returns-clause-start : goal.returns-clause-start
@@ -12,6 +12,9 @@ returns-clause-inner c = layered_inner
 
 pub returns-clause-history : goal.returns-clause-history
 returns-clause-history c = layered_history
+
+pub returns-clause-history_on : goal.returns-clause-history_on
+returns-clause-history_on c = layered_on
 
 pub returns-clause-depth : goal.returns-clause-depth
 returns-clause-depth c = depth_history
