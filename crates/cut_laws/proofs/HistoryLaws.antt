@@ -50,11 +50,12 @@ use Rattle.model_laws.proofs.Leaving.{past, left-so}
 use Rattle.model_laws.proofs.UnmountLaws.{none_left}
 use Rattle.layer_laws.proofs.ApartLaws.{apart_from_start}
 use Rattle.need_laws.specs.Showing.{ShowsAsBefore}
+use Rattle.need_laws.proofs.FindLaws.{split}
 use Rattle.cut_laws.specs.Standing.{IsStanding, AreStanding, AllStand}
 use Rattle.cut_laws.proofs.CutLaws.{needed_shown}
 use Rattle.cut_laws.proofs.FreedLaws.{any_more}
 use Rattle.cut_laws.proofs.GrowLaws.{Fit, grows-itself, steady-grows, grows-inner, fit-mkdir, fit-rmdir, fit-unlink, fit-link, fit-symlink, fit-undelete, fit-rename, fit-chdir, fit-open_file, fit-mount_mem, fit-mount_null, fit-mount_union}
-use Rattle.cut_laws.proofs.StandLaws.{split, Grows, uncut_stands, grown_stands, left_stands, all_grown, all_left}
+use Rattle.cut_laws.proofs.StandLaws.{Grows, uncut_stands, grown_stands, left_stands, all_grown, all_left}
 
 -- ---- unmount(2)
 

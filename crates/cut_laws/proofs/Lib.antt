@@ -9,3 +9,5 @@ pub mod DoomRows
 pub mod DoomLaws
 pub mod OpenLaws
 pub mod ListLaws
+pub mod KeepLaws
+pub mod ReadLaws

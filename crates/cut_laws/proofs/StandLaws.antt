@@ -1,14 +1,13 @@
 -- The mounts of open files keep standing while mounts come and go.
 use Rattle.std.proofs.Common.{◌≡◌, ℕ, zero, suc, ◌<◌, ◌⊎◌, inl, inr, Bool, true, false, cond, ◌||◌, ◌==◌, refl, ap, sym, ◌∙◌, subst, arith, nat_cmp, eqb-true}
 use Rattle.std.specs.Prelude.{Option, Some, None, IsSome, IfSome, is_some, option_map}
-use Rattle.std.specs.List.{list_any}
 use Rattle.std.specs.Cmp.{nat_cmp_total}
 use Rattle.std.specs.Ordering.{eq_by_cmp}
 use Rattle.std.specs.FinMap.{get, remove, get-remove}
 use Rattle.std.proofs.lemmas.Map.Lookups.{exact_unsigned}
 use Rattle.vfs_tree.specs.Facts.{Facts}
 use Rattle.vfs_tree.specs.Layers.{kind_in, store_by, base, kind_of, is_dir_kind, is_cut, cut_by}
-use Rattle.vfs_tree.specs.Mounts.{Leaving, layers_at, stands_within, stands_on, is_of}
+use Rattle.vfs_tree.specs.Mounts.{Leaving, stands_within, stands_on, is_of}
 use Rattle.vfs_tree.specs.Place.{Seen, Mem, Null, UnionUp, UnionLow, mount_of}
 use Rattle.vfs_tree.specs.Sound.{is_mem, is_null, is_union, names_mounts, AreFiles, EachLayer, EachPlace, IsBelow, IsSoundDir, IsSoundPlace}
 use Rattle.vfs_tree.specs.Views.{facts_of}
@@ -19,34 +18,19 @@ use Rattle.vfs_tree.specs.declared.open.Cwd.{Cwd}
 use Rattle.vfs_tree.specs.declared.open.Open.{Open}
 use Rattle.vfs_tree.specs.declared.walk.NodeId.{NodeId}
 use Rattle.vfs_tree.specs.declared.world.World.{World}
-use Rattle.call_laws.specs.Lasting.{lower_mount, IsOver, IsUncut}
+use Rattle.call_laws.specs.Lasting.{lower_mount, IsOver}
 use Rattle.call_laws.proofs.DetachLaws.{IsLayer, null_layer, lower_layer, upper_layer, is_layer}
-use Rattle.call_laws.proofs.FoundLaws.{head_uncut}
 use Rattle.call_laws.proofs.NamedLaws.{no_way}
 use Rattle.call_laws.proofs.PlaceLaws.{below_head}
-use Rattle.call_laws.proofs.SoundParts.{Stays, stays_dir, first_of, second_of, both_of, or_first, each_layer, mem_there, null_there, union_there, mount_there}
+use Rattle.call_laws.proofs.SoundParts.{Stays, stays_dir, first_of, second_of, both_of, or_first, mem_there, null_there, union_there, mount_there}
 use Rattle.call_laws.proofs.UmountLaws.{NamesNot}
 use Rattle.call_laws.proofs.WeightLaws.{equal}
 use Rattle.call_laws.proofs.Whole.{IsWhole}
 use Rattle.call_laws.proofs.WholeLaws.{over_stays}
 use Rattle.model_laws.specs.Unmounted.{NoneIn}
+use Rattle.need_laws.proofs.FindLaws.{split, one_layer, uncut_of}
 use Rattle.cut_laws.specs.Standing.{IsLayerDir, IsStanding, AreStanding, AllStand}
 use Rattle.cut_laws.proofs.FreedLaws.{under, and_layers}
-
-pub split : {C : Type 0} (a b : Bool) → (a ≡ true → C) → (b ≡ true → C) → (a || b) ≡ true → C
-split true b f g e = f refl
-split false b f g e = g e
-
--- one of the mounts in which layers lie
-pub one_layer : {C : Type 0} (Q : ℕ → Type 0) (test : ℕ → Bool) → ((l : ℕ) → Q l → test l ≡ true → C) → (o : Option Mount) → IfSome o (λ t. EachLayer (λ p. Q (mount_of p)) t.kind) → list_any test (layers_at o) ≡ true → C
-one_layer {C = C} Q test give (Some t) each h = by t.kind each h
-  where
-    by : (k : MountKind) → EachLayer (λ p. Q (mount_of p)) k → list_any test (layers_at (Some (record t { kind = k }))) ≡ true → C
-    by kind.Mem x h = no_way h
-    by (kind.Null layer) x h = split (test (mount_of layer)) false (give (mount_of layer) x) (λ e. no_way e) h
-    by (kind.Union s u lower) x h =
-        split (test s) (test (mount_of lower) || false) (give s x.0) (λ e. split (test (mount_of lower)) false (give (mount_of lower) x.1) (λ e. no_way e) e) h
-one_layer {C = C} Q test give None each h = no_way h
 
 -- ---- a mount that isn't cut stands
 
@@ -54,27 +38,13 @@ module _ (w : World) (h : IsWhole w) where
   abbrev f : Facts
   f = facts_of w
 
-  layers_uncut : (a : ℕ) (o : Option Mount) → IfSome o (λ t. t.cut ≡ false → EachPlace (IsUncut f) t) → cut_by o ≡ false → IfSome o (λ t. EachLayer (λ p. is_cut f (mount_of p) ≡ false) t.kind)
-  layers_uncut a (Some t) x cut = each_layer (IsUncut f) (λ p. is_cut f (mount_of p) ≡ false) (head_uncut f) t.kind (x cut).1
-  layers_uncut a None x cut = tt
-
-  uncut_below : (k a n : ℕ) → is_cut f a ≡ false → stands_within k w.mounts a n ≡ true → is_cut f n ≡ false
-  uncut_below zero a n cut e = no_way e
-  uncut_below (suc k) a n cut e =
-      one_layer (λ l. is_cut f l ≡ false) (λ l. (l == n) || stands_within k w.mounts l n)
-      (λ l uncut is. split (l == n) (stands_within k w.mounts l n) (λ same. subst (λ x. is_cut f x ≡ false) (eqb-true l n same) uncut) (uncut_below k l n uncut) is)
-      (get w.mounts a) (layers_uncut a (get w.mounts a) (h.lasts.uncut a) cut) e
-
-  uncut_of : (a n : ℕ) → is_cut f a ≡ false → is_of w.mounts n a ≡ true → is_cut f n ≡ false
-  uncut_of a n cut = split (a == n) (stands_on w.mounts a n) (λ same. subst (λ x. is_cut f x ≡ false) (eqb-true a n same) cut) (uncut_below (suc a) a n cut)
-
   layers_stand : (o : Option Mount) → IfSome o (λ t. t.cut ≡ false → EachPlace (IsSoundDir f) t) → IfSome o (λ t. t.cut ≡ false → EachPlace (IsOver f) t) → cut_by o ≡ false
       → IfSome (option_map (λ (t : Mount). t.kind) o) (EachLayer (IsLayerDir f))
   layers_stand (Some t) dir over cut = and_layers (IsSoundDir f) (IsOver f) (IsLayerDir f) (λ p x y. (x, y)) t.kind (dir cut).1 (over cut).1
   layers_stand None dir over cut = tt
 
   pub uncut_stands : (a : ℕ) → is_cut f a ≡ false → IsStanding w a
-  uncut_stands a cut n of = layers_stand (get w.mounts n) (h.sound.view.places n) (h.lasts.overs n) (uncut_of a n cut of)
+  uncut_stands a cut n of = layers_stand (get w.mounts n) (h.sound.view.places n) (h.lasts.overs n) (uncut_of w h.lasts a n cut of)
 
   -- the mount of a sound place is there
   head_there : (p : Seen) → names_mounts f p ≡ true → IsSome (kind_in f (mount_of p))

@@ -1,3 +1,4 @@
 pub mod Standing
 pub mod Stacks
 pub mod OpenDirs
+pub mod Unwritten
