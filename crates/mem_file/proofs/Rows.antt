@@ -2,7 +2,7 @@
 use Rattle.std.proofs.Common.{◌≡◌, ℕ, suc, ◌+◌, ◌*◌, ◌/◌, ◌%◌, ◌≤◌, ◌<◌, List, [], ◌∷◌, ◌++◌, length, get_or, set, take, drop, ap, sym, ◌∙◌, arith, append_assoc, append-nil, length-append}
 use Rattle.std.proofs.Math.Nat.{suc-mul, mod-lt, div-lt_iff_lt-mul}
 use Rattle.std.proofs.lemmas.Nat.{div-add-mod'}
-use Rattle.std.proofs.lemmas.List.{set_split, set-get_or, length-take-le}
+use Rattle.std.proofs.lemmas.List.{set_split, set-get_or, length-take-le, take_at, take-append-drop}
 use Rattle.std.proofs.lemmas.List.Elements.{All-head, All-tail, All-take, All-get_or}
 use Rattle.std.proofs.lemmas.List.Folds.{concat-append}
 use Rattle.std.specs.List.{concat}
@@ -21,6 +21,12 @@ length-concat s (p ∷ ps) h =
 -- before the i-th stand i times as many bytes
 pub length-front : (s : ℕ) (ps : List (List ℕ)) (i : ℕ) → AreOf s ps → i ≤ length ps → length (concat (take i ps)) ≡ i * s
 length-front s ps i h le = length-concat s (take i ps) (All-take (λ x. length x ≡ s) i ps h) ∙ ap (λ n. n * s) (length-take-le i ps le)
+
+-- the first i rows are the first bytes
+pub concat-take : (s : ℕ) (ps : List (List ℕ)) (i : ℕ) → AreOf s ps → i ≤ length ps → concat (take i ps) ≡ take (i * s) (concat ps)
+concat-take s ps i h le =
+    let split : concat ps ≡ concat (take i ps) ++ concat (drop i ps) = ap concat (sym (take-append-drop i ps)) ∙ concat-append (take i ps) (drop i ps) in
+    sym (ap (take (i * s)) split ∙ take_at (concat (take i ps)) (concat (drop i ps)) (i * s) (length-front s ps i h le))
 
 -- the rows with the i-th replaced
 pub concat-set : (ps : List (List ℕ)) (i : ℕ) (q : List ℕ) → i < length ps → concat (set ps i q) ≡ concat (take i ps) ++ (q ++ concat (drop (suc i) ps))

@@ -1,4 +1,4 @@
-ghost use Rattle.std.specs.Prelude.{◌≡◌, ◌+◌, ◌-◌, ◌*◌, ◌≤◌, ◌<◌, ◌^◌, ◌++◌, [], length, take, drop, replicate, OnOk, OnErr};
+ghost use Rattle.std.specs.Prelude.{◌≡◌, ◌+◌, ◌-◌, ◌*◌, ◌≤◌, ◌<◌, ◌^◌, ◌++◌, [], length, take, drop, replicate, max, OnOk, OnErr};
 ghost use Rattle.mem_file.specs.Paste.{paste};
 ghost use Rattle.mem_file.specs.declared.page.TheConstants.{PAGE};
 
@@ -53,18 +53,44 @@ impl Pages {
         Ok(())
     }
 
-    /// Appends pages of zeros until there are at least `len` bytes. The only fault is want of memory; then some of the
-    /// pages may have been appended.
-    pub fn grow_to(&mut self, alloc: Global, len: usize) -> Result<(), AllocError>
-        ensures room { OnOk result (len ≤ length self.new) }
+    /// Appends pages of zeros until there are `wanted`. The only fault is want of memory; then some of the pages may have
+    /// been appended.
+    fn append(&mut self, alloc: Global, wanted: usize) -> Result<(), AllocError>
+        ensures room { OnOk result (wanted * PAGE ≤ length self.new) }
+        ensures few { length self.new ≤ max (length self.old) (wanted * PAGE) }
         ensures more { length self.old ≤ length self.new }
         ensures zeros { self.new ≡ self.old ++ replicate (length self.new - length self.old) 0 }
     {
-        let wanted = len.div_ceil(PAGE);
         while self.count() < wanted {
             self.grow(alloc)?;
         }
         Ok(())
+    }
+
+    /// Keeps the first `count` pages alone.
+    fn truncate(&mut self, count: usize)
+        requires { count * PAGE ≤ length self.old }
+        ensures { self.new ≡ take (count * PAGE) self.old }
+    {
+        self.pages.truncate(count);
+    }
+
+    /// Appends pages of zeros until there are at least `len` bytes, and no page more. The only fault is want of memory.
+    pub fn grow_to(&mut self, alloc: Global, len: usize) -> Result<(), AllocError>
+        ensures room { OnOk result (len ≤ length self.new) }
+        ensures few { OnOk result (length self.new < max (length self.old + 1) (len + PAGE)) }
+        ensures zeros { self.new ≡ self.old ++ replicate (length self.new - length self.old) 0 }
+        ensures err { OnErr result (self.new ≡ self.old) }
+    {
+        let before = self.count();
+        let wanted = len.div_ceil(PAGE);
+        match self.append(alloc, wanted) {
+            Ok(()) => Ok(()),
+            Err(fault) => {
+                self.truncate(before);
+                Err(fault)
+            }
+        }
     }
 
     /// The bytes from `at` on that stand in one page, at most `most`.
