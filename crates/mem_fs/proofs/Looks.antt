@@ -1,6 +1,6 @@
 -- What look-ups of the nodes tell of what contracts see, and the edits of files.
 use Rattle.std.proofs.Common.{◌≡◌, ℕ, ◌+◌, ◌-◌, Bool, true, false, cond, List, [], ◌∷◌, ◌++◌, length-append, length, take, drop, refl, ap, sym, ◌∙◌, arith}
-use Rattle.std.specs.Prelude.{Option, Some, None, option_map, option_and_then, ◌^◌, min, max, IsSome, is_some}
+use Rattle.std.specs.Prelude.{Option, Some, None, option_map, option_and_then, ◌^◌, min, max, ◌↔◌, IsSome, is_some}
 use Rattle.std.specs.List.{filter_map}
 use Rattle.std.specs.Ordering.{nat_cmp, eq_by_cmp, is_eq}
 use Rattle.std.specs.FinMap.{FinMap, get, insert, remove, empty, entries, get-insert, get-remove, same_map}
@@ -13,6 +13,8 @@ use Rattle.mem_dir.specs.Directory.{white_name, white_names}
 use Rattle.vfs_tree.specs.Name.{name_cmp}
 use Rattle.vfs_tree.specs.Nodes.{entry_in}
 use Rattle.vfs_tree.specs.StoreEdits.{entry_of}
+use Rattle.vfs_tree.specs.Views.{kind_of_node}
+use Rattle.vfs_tree.specs.declared.node.Kind.TheVariants as kind
 use Rattle.vfs_tree.specs.Visible.{given_name, given_names, names_in}
 use Rattle.vfs_tree.specs.Bytes.{resize_bytes, write_bytes}
 use Rattle.vfs_tree.specs.FileEdits.{with_bytes}
@@ -39,6 +41,23 @@ looked m next v i o is at = ap (λ (x : FileSystem). get x.store.nodes i) (sym i
 pub looked_reads : (m : Inodes) (next : ℕ) (v : FileSystem) (i : ℕ) (o : Option Inode) → seen m next ≡ v → o ≡ get m i → get v.reads i ≡ option_and_then (λ (x : Inode). reads_of x.content) o
 looked_reads m next v i o is at =
     ap (λ (x : FileSystem). get x.reads i) (sym is) ∙ get-kept (λ (x : Inode). reads_of x.content) m i ∙ ap (option_and_then (λ (x : Inode). reads_of x.content)) (sym at)
+
+pub looked_reserved : (m : Inodes) (next : ℕ) (v : FileSystem) (i : ℕ) (o : Option Inode) → seen m next ≡ v → o ≡ get m i → get v.reserved i ≡ option_and_then (λ (x : Inode). reserved_of x.content) o
+looked_reserved m next v i o is at =
+    ap (λ (x : FileSystem). get x.reserved i) (sym is) ∙ get-kept (λ (x : Inode). reserved_of x.content) m i ∙ ap (option_and_then (λ (x : Inode). reserved_of x.content)) (sym at)
+
+-- a regular file alone has room
+room_of : (c : Content) → IsSome (reserved_of c) ↔ (Some (kind_of_node (shown c)) ≡ Some kind.File)
+room_of (held.Dir parent opaque name names) = (λ h. cc, λ h. cc)
+room_of (held.File bytes) = (λ h. refl, λ h. refl)
+room_of (held.Link target) = (λ h. cc, λ h. cc)
+
+room_where : (o : Option Inode) → IsSome (option_and_then (λ (x : Inode). reserved_of x.content) o) ↔ (option_map kind_of_node (option_map node_of o) ≡ Some kind.File)
+room_where (Some x) = room_of x.content
+room_where None = (λ h. cc, λ h. cc)
+
+pub room_seen : (m : Inodes) (next : ℕ) (v : FileSystem) (i : ℕ) → seen m next ≡ v → IsSome (get v.reserved i) ↔ (option_map kind_of_node (get v.store.nodes i) ≡ Some kind.File)
+room_seen m next v i is = rw (looked_reserved m next v i (get m i) is refl, looked m next v i (get m i) is refl) (room_where (get m i))
 
 -- nothing is read of nothing
 pub no_bytes : (s : List ℕ) (most at : ℕ) → s ≡ s ++ take most (drop at [])

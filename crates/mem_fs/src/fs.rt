@@ -1,4 +1,4 @@
-ghost use Rattle.std.specs.Prelude.{ℕ, ◌≡◌, ◌≢◌, ◌+◌, ◌-◌, ◌<◌, ◌≤◌, ◌^◌, ◌++◌, ◌↔◌, ◌||◌, min, max, length, take, drop, true, false, if◌then◌else◌, IsTrue, IsSome, IfSome, IfOk, OnOk, OnErr, option_map, option_and_then};
+ghost use Rattle.std.specs.Prelude.{ℕ, ◌≡◌, ◌≢◌, ◌+◌, ◌-◌, ◌<◌, ◌≤◌, ◌^◌, ◌++◌, ◌↔◌, ◌||◌, min, max, length, take, drop, true, false, if◌then◌else◌, is_some, Some, IsTrue, IsSome, IfSome, IfOk, OnOk, OnErr, option_map, option_and_then};
 ghost use Rattle.std.specs.Option.{option_copied};
 ghost use Rattle.std.specs.FinMap as map;
 ghost use Rattle.mem_dir.specs.Directory.{white_names};
@@ -11,6 +11,7 @@ ghost use Rattle.vfs_tree.specs.Start.{empty_store};
 ghost use Rattle.vfs_tree.specs.Views.{kind_of_node, target_in, is_named_in, dir_in, dir_name};
 ghost use Rattle.vfs_tree.specs.Visible.{given_names, names_in};
 ghost use Rattle.vfs_tree.specs.declared.node.NameEntry.TheVariants.{Ino};
+ghost use Rattle.vfs_tree.specs.declared.node.Kind.TheVariants.{File};
 ghost use Rattle.mem_fs.specs.Inodes.{edited, with_new};
 ghost use Rattle.mem_fs.specs.NewNodes.{new_node, new_reads, new_reserved};
 ghost use Rattle.mem_fs.specs.FileSystem.{with_store, without, bytes_in, GivesBare};
@@ -215,7 +216,8 @@ impl MemFs {
 
     /// How many records of a directory were read. `None` comes exactly where there is no such directory.
     pub fn reads(&self, dir: u32) -> Option<u64>
-        ensures { result ≡ map.get self.now.reads dir }
+        ensures count { result ≡ map.get self.now.reads dir }
+        ensures there { is_some result ≡ is_dir_node (map.get self.now.store.nodes dir) }
     {
         match self.nodes.get(dir) {
             Some(inode) => inode.content.reads(),
@@ -314,7 +316,12 @@ impl MemFs {
 
     /// How many bytes a regular file has. A node of another kind has none.
     pub fn size(&self, ino: u32) -> usize
-        ensures { result ≡ length (bytes_in (map.get self.now.store.nodes ino)) }
+        ensures size { result ≡ length (bytes_in (map.get self.now.store.nodes ino)) }
+
+        // What every file system keeps: a regular file alone has room, at most 1 MiB, and its bytes are within it.
+        ensures room { IsSome (map.get self.now.reserved ino) ↔ (option_map kind_of_node (map.get self.now.store.nodes ino) ≡ Some File) }
+        ensures within { IfSome (map.get self.now.reserved ino) (λ room. result ≤ room) }
+        ensures small { IfSome (map.get self.now.reserved ino) (λ room. room ≤ 1048576) }
     {
         match self.nodes.get(ino) {
             Some(inode) => inode.content.size(),

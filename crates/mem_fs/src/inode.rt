@@ -4,11 +4,11 @@ ghost use Rattle.mem_dir.specs.Directory.{white_names};
 ghost use Rattle.vfs_tree.specs.Views.{kind_of_node, target_in};
 ghost use Rattle.vfs_tree.specs.Visible.{given_names, names_in};
 ghost use Rattle.mem_fs.specs.FileSystem.{bytes_in, facts_by};
-ghost use Rattle.std.specs.Prelude.{◌≡◌, ◌+◌, ◌-◌, ◌<◌, ◌≤◌, ◌^◌, ◌++◌, ◌∷◌, [], length, take, drop, IfOk, OnOk, OnErr, IfSome, IfNone, Some, None};
+ghost use Rattle.std.specs.Prelude.{◌≡◌, ◌+◌, ◌-◌, ◌<◌, ◌≤◌, ◌^◌, ◌++◌, ◌∷◌, [], length, take, drop, is_some, IfOk, OnOk, OnErr, IfSome, IfNone, Some, None};
 ghost use Rattle.std.specs.FinMap as map;
 ghost use Rattle.std.specs.FinMap.{entries};
 ghost use Rattle.vfs_tree.specs.Counts.{gives_some};
-ghost use Rattle.vfs_tree.specs.Nodes.{entry_in};
+ghost use Rattle.vfs_tree.specs.Nodes.{entry_in, is_dir_node};
 ghost use Rattle.vfs_tree.specs.Edits.{new_dir};
 ghost use Rattle.mem_fs.specs.Contents.{shown, name_of, reads_of, reserved_of, HasRoom, IsRoomy, HasRoomTo, put_in, cleared_in, counted_in, made_ready, bared, nameless, placed, written_in, cut_in, reserved_to};
 ghost use Rattle.mem_fs.specs.Inodes.{let_go, lost, gained};
@@ -102,7 +102,8 @@ impl Content {
 
     /// How many records of a directory were read.
     pub fn reads(&self) -> Option<u64>
-        ensures { result ≡ reads_of self.now }
+        ensures count { result ≡ reads_of self.now }
+        ensures there { is_some result ≡ is_dir_node (Some (shown self.now)) }
     {
         match self {
             Content::Dir { names, .. } => Some(names.reads()),
@@ -218,7 +219,9 @@ impl Content {
 
     /// How many bytes a regular file has.
     pub fn size(&self) -> usize
-        ensures { result ≡ length (bytes_in (Some (shown self.now))) }
+        ensures size { result ≡ length (bytes_in (Some (shown self.now))) }
+        ensures within { IfSome (reserved_of self.now) (λ room. result ≤ room) }
+        ensures small { IfSome (reserved_of self.now) (λ room. room ≤ 1048576) }
     {
         match self {
             Content::File { bytes } => bytes.len(),
