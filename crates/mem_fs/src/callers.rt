@@ -52,6 +52,7 @@ pub fn rename(
     to: u32,
     new: &Name,
     white: bool,
+    opaque: bool,
 ) -> Result<(), AllocError> {
     let given = fs.find(from, old);
     let target = fs.find(to, new);
@@ -70,7 +71,7 @@ pub fn rename(
     if !is_dir(fs, to) {
         return Err(AllocError);
     }
-    fs.rename(alloc, from, old, to, new, white, false)
+    fs.rename(alloc, from, old, to, new, white, opaque)
 }
 
 /// Lets a further name give a node.

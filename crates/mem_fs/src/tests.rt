@@ -1,8 +1,13 @@
+ghost use Rattle.std.specs.Prelude.{◌≡◌};
+ghost use Rattle.op_vector.specs.Rack.{IsProperBox};
+ghost use Rattle.op_vector.specs.Routes.{mem_route};
+ghost use Rattle.op_vector.specs.declared.data.VKind.TheVariants.{Mem};
+
 use crate::callers::{clear_white, cut, forget, link, make, remove, rename, write};
 use crate::hundred_edits::are_equal;
 use crate::{MemFs, MemVop, NewNode};
 use mem_file::MemFile;
-use op_vector::{Route, VData, Vop};
+use op_vector::{BoxedVop, Op, Route, VData, VKind, Vop, ask};
 use std::alloc::Global;
 use std::test::Fail;
 use vfs_tree::{ByteBuffer, Bytes, DirFacts, Errno, Kind, Name, NameEntry, Node, Store};
@@ -179,7 +184,7 @@ fn rename_over_a_name(rt: HostRuntime) -> Result<(), Fail> {
         Name::new(alloc, b"other")?,
         NewNode::File,
     )?;
-    rename(alloc, &mut fs, 1, &old, 1, &new, true)?;
+    rename(alloc, &mut fs, 1, &old, 1, &new, true, false)?;
     assert_eq!(rt; fs.find(1, &old), Some(NameEntry::White));
     assert_eq!(rt; fs.find(1, &new), Some(NameEntry::Ino { ino: 2 }));
     assert!(rt; !fs.is_named(3));
@@ -193,7 +198,7 @@ fn rename_into_another_directory(rt: HostRuntime) -> Result<(), Fail> {
     let old = Name::new(alloc, b"old")?;
     let new = Name::new(alloc, b"new")?;
     make(alloc, &mut fs, 1, Name::new(alloc, b"old")?, NewNode::Dir)?;
-    rename(alloc, &mut fs, 1, &old, 2, &new, false)?;
+    rename(alloc, &mut fs, 1, &old, 2, &new, false, false)?;
     assert_eq!(rt; fs.find(1, &old), None);
     assert_eq!(rt; fs.find(2, &new), Some(NameEntry::Ino { ino: 3 }));
     let facts = DirFacts {
@@ -331,6 +336,41 @@ fn routes(rt: HostRuntime) -> Result<(), Fail> {
     Ok(())
 }
 
+/// The route that the vector of a memory file system answers.
+fn route_of<B: Vop>(vector: &B, vd: &VData, op: Op) -> Route
+    requires { IsProperBox B.vkind B.routes Mem vector.now }
+    ensures { result ≡ mem_route vd.now op }
+{
+    ask(vector, vd, op)
+}
+
+#[test]
+fn a_box_is_asked_for_each_operation(rt: HostRuntime) -> Result<(), Fail> {
+    let boxed: BoxedVop = Box::new(rt.alloc(), MemVop)?;
+    let data = VData::Mem { mount: 3, ino: 7 };
+    let operations = [
+        Op::Lookup,
+        Op::Open,
+        Op::Read,
+        Op::Write,
+        Op::Getattr,
+        Op::Readdir,
+        Op::Readlink,
+        Op::Create,
+        Op::Remove,
+        Op::Rename,
+        Op::Link,
+        Op::Truncate,
+        Op::Inactive,
+        Op::Reclaim,
+    ];
+    assert!(rt; boxed.kind() == VKind::Mem);
+    for op in operations {
+        assert_eq!(rt; route_of(&boxed, &data, op), Route::Here { ino: 7 });
+    }
+    Ok(())
+}
+
 #[test]
 fn the_name_of_a_directory(rt: HostRuntime) -> Result<(), Fail> {
     let alloc = rt.alloc();
@@ -353,6 +393,7 @@ fn the_name_of_a_renamed_directory(rt: HostRuntime) -> Result<(), Fail> {
         &Name::new(alloc, b"dir")?,
         1,
         &new,
+        false,
         false,
     )?;
     assert_eq!(rt; fs.name_of(2), Some(&new));
