@@ -1,13 +1,13 @@
 -- What turns keep.
-use Rattle.std.proofs.Common.{◌≡◌, ℕ, zero, suc, ◌+◌, ◌*◌, ◌<◌, ◌≤◌, arith, length, eq-eqb, Bool, true, false, not, ◌==◌, ◌++◌, List, [], ◌∷◌, refl, ap, sym, ◌∙◌, subst, cond, append_assoc, inl, inr, map, take, drop, get_or, length-append}
-use Rattle.std.specs.Prelude.{Result, Ok, Err, OnOk, Option, Some, None, IsSome, is_some, unwrap_or}
+use Rattle.std.proofs.Common.{◌≡◌, ℕ, zero, suc, ◌+◌, ◌-◌, ◌*◌, ◌<◌, ◌≤◌, arith, length, eq-eqb, Bool, true, false, not, ◌==◌, ◌++◌, List, [], ◌∷◌, refl, ap, sym, ◌∙◌, subst, cond, append_assoc, inl, inr, map, drop, get_or, reverse, length-append}
+use Rattle.std.specs.Prelude.{nat_lt, Result, Ok, Err, OnOk, Option, Some, None, IsSome, is_some, unwrap_or}
 use Rattle.std.specs.Option.{option_to_list}
 use Rattle.std.specs.List.{AllByRecursion}
 use Rattle.std.specs.Ordering.{nat_cmp, eq_by_cmp, is_eq}
 use Rattle.std.specs.Cmp.{nat_cmp_total, unsigned_ties}
 use Rattle.std.specs.FinMap.{FinMap, get, insert, remove, empty, get-empty, get-insert, get-remove}
 use Rattle.std.proofs.lemmas.Bool.Decides.{eqb_tells}
-use Rattle.std.proofs.lemmas.List.{append-nil}
+use Rattle.std.proofs.lemmas.List.{append-nil, reverse-append}
 use Rattle.std.proofs.lemmas.Option.{same_Some}
 use Rattle.std.proofs.lemmas.Cmp.{tied_itself}
 use Rattle.std.proofs.lemmas.Map.Lookups.{exact_unsigned}
@@ -28,8 +28,9 @@ use Rattle.vfs_core.specs.Kernel.{Kernel, work}
 use Rattle.vfs_core.specs.Queues.{Queues, queue_at, BeginsNext}
 use Rattle.vfs_core.specs.Stepping.{Steps, dooms}
 use Rattle.vfs_core.specs.Work.{Work, IsRunning}
-use Rattle.vfs_core.specs.Turning.{calls_with, Turns, Begins, FitsJob, Runs, IsDone, HasLeft, is_ready, ready_to, caller_work, work_to, calls_left, pace_of, Paces, lines_of, GoesOn, Ends, HasRun, RunsLine, StartsLine, RunsLines}
+use Rattle.vfs_core.specs.Turning.{calls_at, calls_with, owed, times, callers_left, without_first, lines_left, Turns, Begins, FitsJob, Runs, IsDone, HasLeft, is_ready, ready_to, caller_work, work_to, calls_left, pace_of, Paces, lines_of, GoesOn, Ends, HasRun, RunsLine, StartsLine, RunsLines, IsSought}
 use Rattle.vfs_core.specs.Filling.{IsFilled}
+use Rattle.vfs_core.proofs.LineLaws.{apart, times_calls, times_low, times_left, all_left, each_left, without, callers_without, calls_without, others_without, first_gone}
 use Rattle.vfs_core.specs.declared.job.Turned.{Turned}
 use Rattle.vfs_core.specs.declared.job.Turned.TheVariants as turned
 use Rattle.vfs_core.specs.declared.kern.Stepped.{Stepped}
@@ -53,13 +54,16 @@ by_caller c d P here there = elim (eqb_tells d c) [ inl e ↦ subst P (sym e.0) 
 
 -- ---- a call begins
 
-began_keeps : (h : List Entry) (p : Pending) (q : Queues) (c d : ℕ) (call : Call) (rest : List Call) → get p c ≡ None → queue_at q c ≡ call ∷ rest
-    → calls_of d h ++ (option_to_list (get (insert p c call) d) ++ queue_at (insert q c rest) d) ≡ calls_of d h ++ (option_to_list (get p d) ++ queue_at q d)
-began_keeps h p q c d call rest idle next =
+began_same : (p : Pending) (q : Queues) (c d : ℕ) (call : Call) (rest : List Call) → get p c ≡ None → queue_at q c ≡ call ∷ rest
+    → option_to_list (get (insert p c call) d) ++ queue_at (insert q c rest) d ≡ option_to_list (get p d) ++ queue_at q d
+began_same p q c d call rest idle next =
     let goal : Bool → Type 0 = λ b. option_to_list (cond b (Some call) (get p d)) ++ unwrap_or (cond b (Some rest) (get q d)) [] ≡ option_to_list (get p d) ++ queue_at q d in
     let here : d ≡ c → call ∷ rest ≡ option_to_list (get p d) ++ queue_at q d = λ e. sym (ap (λ x. option_to_list (get p x) ++ queue_at q x) e ∙ ap (λ o. option_to_list o ++ queue_at q c) idle ∙ next) in
-    let both : option_to_list (cond (d == c) (Some call) (get p d)) ++ unwrap_or (cond (d == c) (Some rest) (get q d)) [] ≡ option_to_list (get p d) ++ queue_at q d = by_caller c d goal here refl in
-    ap (λ (t : List Call). calls_of d h ++ t) (ap (λ o. option_to_list o ++ queue_at (insert q c rest) d) (get-put p c call d) ∙ ap (λ o. option_to_list (cond (d == c) (Some call) (get p d)) ++ unwrap_or o []) (get-put q c rest d) ∙ both)
+    ap (λ o. option_to_list o ++ queue_at (insert q c rest) d) (get-put p c call d) ∙ ap (λ o. option_to_list (cond (d == c) (Some call) (get p d)) ++ unwrap_or o []) (get-put q c rest d) ∙ by_caller c d goal here refl
+
+began_keeps : (h : List Entry) (p : Pending) (q : Queues) (c d : ℕ) (call : Call) (rest : List Call) → get p c ≡ None → queue_at q c ≡ call ∷ rest
+    → calls_of d h ++ (option_to_list (get (insert p c call) d) ++ queue_at (insert q c rest) d) ≡ calls_of d h ++ (option_to_list (get p d) ++ queue_at q d)
+began_keeps h p q c d call rest idle next = ap (λ (t : List Call). calls_of d h ++ t) (began_same p q c d call rest idle next)
 
 -- ---- entries more
 
@@ -128,6 +132,58 @@ pub begins_turn : (old new : Work) (c : ℕ) (b : Begun) → Begins old new c b 
 begins_turn old new c begun.Idle h = (turned.Idle, h)
 begins_turn old new c begun.NoMemory h = (turned.NoMemory, h)
 begins_turn old new c begun.Began h = (turned.Began, h)
+
+-- ---- the lines that are left
+
+-- where each caller's calls live or left are what they were, so are the lines
+lines_same : (lines : List Line) (old new : Work) → ((d : ℕ) → calls_at new d ≡ calls_at old d) → new.order ≡ old.order → HasLeft lines old → HasLeft lines new
+lines_same lines old new same order h = record {
+  order = h.order ∙ sym (λ i. callers_left (λ d. length (same d i)) (order i));
+  left = λ d. same d ∙ h.left d;
+}
+
+-- where a live call ended, the first line of its caller is left no more
+pub left_ended : (lines : List Line) (k n : Kernel) (q : Queues) (o : List ℕ) (c : ℕ) (call : Call) → get k.pending c ≡ Some call → n.pending ≡ remove k.pending c
+    → HasLeft lines (record { kern = k; left = q; order = o }) → HasLeft (without_first c lines) (record { kern = n; left = q; order = o })
+left_ended lines k n q o c call its taken h =
+    let old : Work = record { kern = k; left = q; order = o } in
+    let new : Work = record { kern = n; left = q; order = o } in
+    let live : calls_at old c ≡ call ∷ queue_at q c = ap (λ o. option_to_list o ++ queue_at q c) its in
+    let now : (d : ℕ) → calls_at new d ≡ option_to_list (cond (d == c) None (get k.pending d)) ++ queue_at q d = λ d.
+    ap (λ (p : Pending). option_to_list (get p d) ++ queue_at q d) taken ∙ ap (λ o. option_to_list o ++ queue_at q d) (get-taken k.pending c d)
+    in
+    let here : calls_at new c ≡ queue_at q c = now c ∙ ap (λ b. option_to_list (cond b None (get k.pending c)) ++ queue_at q c) (eq-eqb c c refl) in
+    let there : (d : ℕ) → (c == d) ≡ false → calls_at new d ≡ calls_at old d = λ d other.
+    now d ∙ ap (λ b. option_to_list (cond b None (get k.pending d)) ++ queue_at q d) (apart c d other)
+    in
+    let some : suc (length (queue_at q c)) ≤ times c o =
+    subst (λ x. x ≤ times c o) (sym (ap (times c) h.order) ∙ sym (times_calls c lines) ∙ ap length (sym (h.left c) ∙ live)) (times_left (owed old) c o)
+    in
+    record {
+      order = callers_without c lines ∙ ap (without c) h.order
+          ∙ sym (first_gone (owed old) (owed new) c (length (queue_at q c)) (ap length live) (ap length here) (λ d other. ap length (there d other)) o some);
+      left = λ d. elim (eqb_tells c d) [
+        | inl e ↦ subst (λ x. calls_at new x ≡ calls_in x (without_first c lines)) e.1 (here ∙ ap (λ (t : List Call). drop 1 t) (sym live ∙ h.left c) ∙ sym (calls_without c lines))
+        | inr e ↦ there d e.0 ∙ h.left d ∙ sym (others_without c d lines e.0)
+      ];
+    }
+
+-- the lines that are left after a turn
+pub turn_left : (old new : Work) (c : ℕ) (r : Turned) → Turns old new c r → (lines : List Line) → HasLeft lines old → HasLeft (lines_left c r lines) new
+turn_left old new c turned.Idle h lines had = subst (λ (j : Work). HasLeft lines j) (sym h.2) had
+turn_left old new c turned.NoMemory h lines had = subst (λ (j : Work). HasLeft lines j) (sym h.4) had
+turn_left old new c turned.Began h lines had =
+    lines_same lines old new (λ d. ap (λ (j : Work). calls_at j d) h.4 ∙ began_same old.kern.pending old.left c d h.0 h.1 h.2 h.3) (ap (λ (j : Work). j.order) h.4) had
+turn_left old new c (turned.Did stepped.Went) h lines had =
+    let same : (d : ℕ) → calls_at new d ≡ calls_at old d = λ d.
+    ap (λ (k : Kernel). option_to_list (get k.pending d) ++ queue_at new.left d) h.0.1 ∙ ap (λ (q : Queues). option_to_list (get old.kern.pending d) ++ queue_at q d) h.1
+    in
+    lines_same lines old new same h.2 had
+turn_left old new c (turned.Did (stepped.Ended reply)) h lines had =
+    let gone : HasLeft (without_first c lines) (record { kern = new.kern; left = old.left; order = old.order }) =
+    left_ended lines old.kern new.kern old.left old.order c h.0.0 h.0.2 (ap (λ (k : Kernel). k.pending) h.0.3) had
+    in
+    lines_same (without_first c lines) (record { kern = new.kern; left = old.left; order = old.order }) new (λ d. ap (λ (q : Queues). option_to_list (get new.kern.pending d) ++ queue_at q d) h.1) h.2 gone
 
 -- ---- what a job keeps
 
@@ -258,11 +314,17 @@ filled_calls k q o lines rest idle filled none c =
     ∙ ap (λ (t : List Call). calls_of c k.history ++ t) (sym (append-nil (queue_at q c)) ∙ ap (λ (x : List Line). queue_at q c ++ calls_in c x) (sym none) ∙ filled.calls c)
 
 pub filled_left : (k : Kernel) (q : Queues) (o : List ℕ) (lines rest : List Line) → k.pending ≡ empty → IsFilled k.limits q o lines rest → rest ≡ [] → HasLeft lines (record { kern = k; left = q; order = o })
-filled_left k q o lines rest idle filled none = record {
-  idle = idle;
-  order = sym (append-nil o) ∙ ap (λ (x : List Line). o ++ map (λ (l : Line). l.caller) x) (sym none) ∙ filled.callers;
-  left = λ c. sym (append-nil (queue_at q c)) ∙ ap (λ (x : List Line). queue_at q c ++ calls_in c x) (sym none) ∙ filled.calls c;
-}
+filled_left k q o lines rest idle filled none =
+    let job : Work = record { kern = k; left = q; order = o } in
+    let calls : (c : ℕ) → calls_at job c ≡ calls_in c lines = λ c.
+    ap (λ o. option_to_list o ++ queue_at q c) (ap (λ m. get m c) idle ∙ get-empty nat_cmp c)
+    ∙ sym (append-nil (queue_at q c)) ∙ ap (λ (x : List Line). queue_at q c ++ calls_in c x) (sym none) ∙ filled.calls c
+    in
+    let callers : o ≡ map (λ (l : Line). l.caller) lines = sym (append-nil o) ∙ ap (λ (x : List Line). o ++ map (λ (l : Line). l.caller) x) (sym none) ∙ filled.callers in
+    let enough : (c : ℕ) → times c o ≤ owed job c = λ c.
+    subst (λ x. x ≤ owed job c) (ap length (calls c) ∙ times_calls c lines ∙ ap (times c) (sym callers)) (omega arith)
+    in
+    record { order = sym callers ∙ sym (all_left (owed job) o enough); left = calls }
 
 pub filled_runs : (k : Kernel) (q : Queues) (o : List ℕ) (lines rest : List Line) → k.pending ≡ empty → IsFilled k.limits q o lines rest → IsLegal k.pending (start_world k.limits) k.history → IsRunning k q o
 filled_runs k q o lines rest idle filled legal = record {
@@ -289,13 +351,23 @@ turn_limits old new c (turned.Did stepped.Went) h = ap (λ (k : Kernel). k.limit
 turn_limits old new c (turned.Did (stepped.Ended reply)) h = ap (λ (k : Kernel). k.limits) h.0.3
 
 pub runs_none : (job : Work) → Runs job job
-runs_none job = record { limits = refl; extends = same_history _ _ refl; each_call = λ d. refl }
+runs_none job = record { limits = refl; extends = same_history _ _ refl; each_call = λ d. refl; left = λ lines h. (lines, h) }
 
 pub runs_more : (a b c : Work) → Runs a b → Runs b c → Runs a c
-runs_more a b c p q = record { limits = q.limits ∙ p.limits; extends = extends-more _ _ _ p.extends q.extends; each_call = λ d. q.each_call d ∙ p.each_call d }
+runs_more a b c p q = record {
+  limits = q.limits ∙ p.limits;
+  extends = extends-more _ _ _ p.extends q.extends;
+  each_call = λ d. q.each_call d ∙ p.each_call d;
+  left = λ lines h. let mid = p.left lines h in q.left mid.0 mid.1;
+}
 
 pub runs_turn : (old new : Work) (c : ℕ) (r : Turned) → Turns old new c r → Runs old new
-runs_turn old new c r turn = record { limits = turn_limits old new c r turn; extends = turn_extends old new c r turn; each_call = turn_keeps_calls old new c r turn }
+runs_turn old new c r turn = record {
+  limits = turn_limits old new c r turn;
+  extends = turn_extends old new c r turn;
+  each_call = turn_keeps_calls old new c r turn;
+  left = λ lines h. (lines_left c r lines, turn_left old new c r turn lines h);
+}
 
 -- ---- the work of callers
 
@@ -495,28 +567,19 @@ ends_runs k n q o c e = record {
   extends = record { more = e.more; is = ap (λ (x : Kernel). x.history) e.is };
   each_call = λ d. ap (λ (x : Kernel). calls_of d x.history ++ (option_to_list (get x.pending d) ++ queue_at q d)) e.is
       ∙ ended_keeps k.history e.more k.pending q c d e.call e.live (calls_lines d e.more ∙ ap (calls_in d) e.line);
+  left = λ lines h. (without_first c lines, left_ended lines k n q o c e.call e.live (ap (λ (x : Kernel). x.pending) e.is) h);
 }
 
 pub running-ends : (k n : Kernel) (q : Queues) (o : List ℕ) (c : ℕ) → IsRunning k q o → Ends k n c → IsLegal n.pending (start_world n.limits) n.history → IsRunning n q o
 running-ends k n q o c running e legal = running-ended k n q o c running (ap (λ (x : Kernel). x.limits) e.is) (ap (λ (x : Kernel). x.pending) e.is) legal
 
--- a caller whose call is live, or that has none left, is no caller of a line that is next
-pub live_line : (old new : Work) (c : ℕ) → IsSome (get old.kern.pending c) → RunsLine c old new
-live_line old new c live call rest idle next = absurd (let clash : false ≡ true = sym (ap is_some (ap (λ m. get m c) idle ∙ get-empty nat_cmp c)) ∙ live in cc)
-
--- a line that was begun and has ended
-pub begun_line : (old mid : Work) (n : Kernel) (c : ℕ) → Begins old mid c begun.Began → Ends mid.kern n c → RunsLine c old (record { kern = n; left = mid.left; order = mid.order })
-begun_line old mid n c h e call rest idle next =
-    let both : h.0 ∷ h.1 ≡ call ∷ rest = sym h.3 ∙ next in
-    let first : h.0 ≡ call = ap (λ (t : List Call). get_or t 0 call) both in
-    let others : h.1 ≡ rest = ap (λ (t : List Call). drop 1 t) both in
-    let live : get mid.kern.pending c ≡ Some h.0 = ap (λ (j : Work). get j.kern.pending c) h.4 ∙ get_at-insert nat_cmp_total old.kern.pending c h.0 in
-    let its : e.call ≡ call = same_Some _ _ (sym e.live ∙ live) ∙ first in (
-      ap (λ (x : Kernel). x.pending) e.is ∙ ap (λ (j : Work). remove j.kern.pending c) h.4 ∙ remove-insert nat_cmp_total exact_unsigned old.kern.pending c h.0 h.2 ∙ idle,
-      ap (λ (j : Work). j.left) h.4 ∙ ap (insert old.left c) others,
-      ap (λ (x : Kernel). lines_of x.history) e.is ∙ ap (λ (j : Work). lines_of (j.kern.history ++ e.more)) h.4 ∙ lines_append old.kern.history e.more
-          ∙ ap (λ (t : List Line). lines_of old.kern.history ++ t) (e.line ∙ ap (λ k. record { caller = c; call = k } ∷ []) its),
-    )
+-- the first line that is left is of another caller where this one has no call live or left
+pub idle_line : (old mid new : Work) (c : ℕ) (b : Begun) → Begins old mid c b → b ≡ begun.Idle → RunsLine c old new
+idle_line old mid new c b begins is l rest had mine =
+    let h : Begins old mid c begun.Idle = subst (λ x. Begins old mid c x) is begins in
+    let first : (c == l.caller) ≡ true = ap (λ x. c == x) mine ∙ eq-eqb c c refl in
+    let none : l.call ∷ calls_in c rest ≡ [] = sym (ap (λ b. cond b (l.call ∷ calls_in c rest) (calls_in c rest)) first) ∙ sym (had.left c) ∙ ap (λ o. option_to_list o ++ queue_at old.left c) h.0 ∙ h.1 in
+    absurd (let some : suc (length (calls_in c rest)) ≡ 0 = ap length none in omega arith)
 
 -- a line starts
 pub starts_begun : (c : ℕ) (old mid new : Work) (b : Begun) → Begins old mid c b → b ≡ begun.Began → new ≡ mid → StartsLine c old new
@@ -535,46 +598,149 @@ pub starts_runs : (c : ℕ) (old mid : Work) (n : Kernel) → StartsLine c old m
 starts_runs c old mid n (inl h) e = runs_more old mid _ (runs_turn old mid c turned.Began h) (ends_runs mid.kern n mid.left mid.order c e)
 starts_runs c old mid n (inr h) e = runs_more old mid _ (subst (λ (j : Work). Runs old j) (sym h.0) (runs_none old)) (ends_runs mid.kern n mid.left mid.order c e)
 
+starts_history : (c : ℕ) (old mid : Work) → StartsLine c old mid → mid.kern.history ≡ old.kern.history
+starts_history c old mid (inl h) = ap (λ (j : Work). j.kern.history) h.4
+starts_history c old mid (inr h) = ap (λ (j : Work). j.kern.history) h.0
+
+starts_left : (c : ℕ) (old mid : Work) → StartsLine c old mid → (lines : List Line) → HasLeft lines old → HasLeft lines mid
+starts_left c old mid (inl h) lines had = turn_left old mid c turned.Began h lines had
+starts_left c old mid (inr h) lines had = subst (λ (j : Work). HasLeft lines j) (sym h.0) had
+
 -- and the line was run
 pub starts_line : (c : ℕ) (old mid : Work) (n : Kernel) → StartsLine c old mid → Ends mid.kern n c → RunsLine c old (record { kern = n; left = mid.left; order = mid.order })
-starts_line c old mid n (inl h) e = begun_line old mid n c h e
-starts_line c old mid n (inr h) e = live_line old (record { kern = n; left = mid.left; order = mid.order }) c h.1
+starts_line c old mid n start e l rest had mine =
+    let new : Work = record { kern = n; left = mid.left; order = mid.order } in
+    let begun : HasLeft (l ∷ rest) mid = starts_left c old mid start (l ∷ rest) had in
+    let ended : HasLeft (without_first c (l ∷ rest)) new = left_ended (l ∷ rest) mid.kern n mid.left mid.order c e.call e.live (ap (λ (x : Kernel). x.pending) e.is) begun in
+    let first : (c == l.caller) ≡ true = ap (λ x. c == x) mine ∙ eq-eqb c c refl in
+    let its : e.call ∷ queue_at mid.left c ≡ l.call ∷ calls_in c rest =
+    sym (ap (λ o. option_to_list o ++ queue_at mid.left c) e.live) ∙ begun.left c ∙ ap (λ b. cond b (l.call ∷ calls_in c rest) (calls_in c rest)) first
+    in
+    let call : e.call ≡ l.call = ap (λ (t : List Call). get_or t 0 l.call) its in
+    let line : record { caller = c; call = e.call } ≡ l = λ i. record { caller = sym mine i; call = call i } in (
+      subst (λ (ls : List Line). HasLeft ls new) (ap (λ b. cond b rest (l ∷ without_first c rest)) first) ended,
+      ap (λ (x : Kernel). lines_of x.history) e.is ∙ lines_append mid.kern.history e.more
+          ∙ ap (λ (t : List Line). lines_of mid.kern.history ++ t) (e.line ∙ ap (λ (x : Line). x ∷ []) line)
+          ∙ ap (λ (es : List Entry). lines_of es ++ l ∷ []) (starts_history c old mid start),
+    )
 
-line_at : (n c : ℕ) (xs : List Line) → n < length (map (λ (l : Line). l.caller) xs) → get_or (map (λ (l : Line). l.caller) xs) n c ≡ c
-    → (call : Call) × (drop n xs ≡ record { caller = c; call = call } ∷ drop (suc n) xs) × (take (suc n) xs ≡ take n xs ++ record { caller = c; call = call } ∷ [])
-line_at n c [] low e = absurd (omega arith)
-line_at zero c (x ∷ xs) low e = (x.call, ap (λ k. record { caller = k; call = x.call } ∷ xs) e, ap (λ k. record { caller = k; call = x.call } ∷ []) e)
-line_at (suc n) c (x ∷ xs) low e = let r = line_at n c xs (omega arith) e in (r.0, r.1, ap (λ (t : List Line). x ∷ t) r.2)
+-- ---- the callers of the lines that are left are sought from the last line on
+
+pub sought-start : (owed : ℕ → ℕ) (callers : List ℕ) (later : FinMap nat_cmp ℕ) (rest : List ℕ) → callers ≡ [] → later ≡ empty → rest ≡ [] → IsSought owed callers later rest
+sought-start owed callers later rest none first end = record {
+  callers = ap reverse none ∙ sym (ap (callers_left owed) end);
+  later = λ c. ap (λ m. unwrap_or (get m c) 0) first ∙ ap (λ o. unwrap_or o 0) (get-empty nat_cmp c) ∙ sym (ap (times c) end);
+}
+
+-- one line more is seen
+pub sought-next : (owed : ℕ → ℕ) (callers callers' : List ℕ) (later later' : FinMap nat_cmp ℕ) (rest : List ℕ) (c : ℕ) (b : Bool) → IsSought owed callers later rest
+    → b ≡ nat_lt (unwrap_or (get later c) 0) (owed c) → callers' ≡ cond b (callers ++ c ∷ []) callers → later' ≡ insert later c (unwrap_or (get later c) 0 + 1) → IsSought owed callers' later' (c ∷ rest)
+sought-next owed callers callers' later later' rest c b sought test pushed put =
+    let is : b ≡ nat_lt (times c rest) (owed c) = test ∙ ap (λ x. nat_lt x (owed c)) (sought.later c) in
+    record {
+      callers = ap reverse pushed ∙ (elim b as (λ b. reverse (cond b (callers ++ c ∷ []) callers) ≡ cond b (c ∷ callers_left owed rest) (callers_left owed rest)) [
+            | true ↦ reverse-append callers (c ∷ []) ∙ ap (λ (t : List ℕ). c ∷ t) sought.callers
+            | false ↦ sought.callers
+          ])
+          ∙ ap (λ x. cond x (c ∷ callers_left owed rest) (callers_left owed rest)) is;
+      later = λ d. ap (λ m. unwrap_or (get m d) 0) put ∙ ap (λ o. unwrap_or o 0) (get-put later c (unwrap_or (get later c) 0 + 1) d) ∙ (elim (eqb_tells d c) [
+        | inl e ↦
+            ap (λ x. unwrap_or (cond x (Some (unwrap_or (get later c) 0 + 1)) (get later d)) 0) e.0 ∙ ap (λ x. x + 1) (sought.later c) ∙ one (times c rest)
+            ∙ sym (ap (λ x. cond x (suc (times c rest)) (times c rest)) (eq-eqb c c refl)) ∙ ap (λ x. times x (c ∷ rest)) (sym e.1)
+        | inr e ↦
+            ap (λ x. unwrap_or (cond x (Some (unwrap_or (get later c) 0 + 1)) (get later d)) 0) e.0 ∙ sought.later d ∙ sym (ap (λ x. cond x (suc (times d rest)) (times d rest)) e.0)
+      ]);
+    }
+  where
+    one : (n : ℕ) → n + 1 ≡ suc n
+    one n = omega arith
+
+-- no line stands behind the last one
+pub none_from : (n : ℕ) (cs : List ℕ) → n ≡ length cs → drop n cs ≡ []
+none_from zero [] e = refl
+none_from zero (c ∷ cs) e = absurd (omega arith)
+none_from (suc n) [] e = absurd (omega arith)
+none_from (suc n) (c ∷ cs) e = none_from n cs (omega arith)
+
+-- the lines from a place on
+pub callers_from : (n : ℕ) (cs : List ℕ) (d : ℕ) → n < length cs → drop n cs ≡ get_or cs n d ∷ drop (suc n) cs
+callers_from n [] d low = absurd (omega arith)
+callers_from zero (c ∷ cs) d low = refl
+callers_from (suc n) (c ∷ cs) d low = callers_from n cs d (omega arith)
+
+-- the next line before is seen
+pub sought-step : (owed : ℕ → ℕ) (found found' : List ℕ) (seen seen' : FinMap nat_cmp ℕ) (n : ℕ) (order : List ℕ) (c m : ℕ) (b : Bool) → IsSought owed found seen (drop n order)
+    → 1 ≤ n → n ≤ length order → get_or order (n - 1) c ≡ c → m ≡ unwrap_or (get seen c) 0 → b ≡ nat_lt m (owed c) → found' ≡ cond b (found ++ c ∷ []) found → seen' ≡ insert seen c (m + 1)
+    → IsSought owed found' seen' (drop (n - 1) order)
+sought-step owed found found' seen seen' n order c m b sought some low at is test pushed put =
+    let from : drop (n - 1) order ≡ c ∷ drop n order =
+    callers_from (n - 1) order c (omega arith) ∙ ap (λ x. x ∷ drop (suc (n - 1)) order) at ∙ ap (λ k. c ∷ drop k order) (back n some)
+    in
+    subst (λ (r : List ℕ). IsSought owed found' seen' r) (sym from)
+    (sought-next owed found found' seen seen' (drop n order) c b sought (test ∙ ap (λ x. nat_lt x (owed c)) is) pushed (put ∙ ap (λ x. insert seen c (x + 1)) is))
+  where
+    back : (n : ℕ) → 1 ≤ n → suc (n - 1) ≡ n
+    back n some = omega arith
+
+-- no caller stands in it more often than there are lines
+pub sought-low : (owed : ℕ → ℕ) (found : List ℕ) (seen : FinMap nat_cmp ℕ) (n : ℕ) (order : List ℕ) (c m : ℕ) → IsSought owed found seen (drop n order) → m ≡ unwrap_or (get seen c) 0 → m ≤ length order
+sought-low owed found seen n order c m sought is = below _ _ _ _ (is ∙ sought.later c) (times_low c (drop n order)) (from n order)
+  where
+    below : (a b c d : ℕ) → a ≡ b → b ≤ c → c ≤ d → a ≤ d
+    below a b c d e f g = omega arith
+
+    from : (n : ℕ) (cs : List ℕ) → length (drop n cs) ≤ length cs
+    from zero cs = omega arith
+    from (suc n) [] = omega arith
+    from (suc n) (c ∷ cs) = let low : length (drop n cs) ≤ length cs = from n cs in omega arith
+
+-- they are callers
+pub sought-fits : (limits : Limits) (owed : ℕ → ℕ) (found all : List ℕ) (seen : FinMap nat_cmp ℕ) (n : ℕ) (order : List ℕ) → IsSought owed found seen (drop n order) → n ≡ 0 → all ≡ reverse found
+    → AllByRecursion (IsCaller limits) order → AllByRecursion (IsCaller limits) all
+sought-fits limits owed found all seen n order sought end turned each =
+    subst (λ (x : List ℕ). AllByRecursion (IsCaller limits) x) (sym (turned ∙ sought.callers ∙ ap (λ k. callers_left owed (drop k order)) end)) (each_left (IsCaller limits) owed order each)
+
+-- ---- the lines that are left are run
+
+pub lines_start : (job : Work) (cs : List ℕ) → cs ≡ callers_left (owed job) job.order → AllByRecursion (IsCaller job.kern.limits) cs → RunsLines cs job job
+lines_start job cs is fits = record {
+  runs = runs_none job;
+  fits = fits;
+  ordered = λ lines h. record { run = []; rest = lines; all = refl; theirs = h.order ∙ sym is; left = h; entered = sym (append-nil (lines_of job.kern.history)) };
+}
+
+first_line : (c : ℕ) (cs : List ℕ) (xs : List Line) → map (λ (l : Line). l.caller) xs ≡ c ∷ cs → (l : Line) × (ls : List Line) × (xs ≡ l ∷ ls) × (l.caller ≡ c) × (map (λ (l : Line). l.caller) ls ≡ cs)
+first_line c cs [] e = absurd (let some : 0 ≡ suc (length cs) = ap length e in omega arith)
+first_line c cs (l ∷ ls) e = (l, ls, refl, ap (λ (t : List ℕ). get_or t 0 c) e, ap (λ (t : List ℕ). drop 1 t) e)
 
 -- one line more has been run
-pub lines_next : (n m c : ℕ) (old mid new : Work) → RunsLines n old mid → Runs mid new → new.order ≡ mid.order → RunsLine c mid new → n < length mid.order → get_or mid.order n c ≡ c → m ≡ suc n → RunsLines m old new
-lines_next n m c old mid new run more same one low at next = subst (λ x. RunsLines x old new) (sym next) (record {
+pub lines_next : (c : ℕ) (cs cs' : List ℕ) (old mid new : Work) → RunsLines cs old mid → cs ≡ c ∷ cs' → Runs mid new → RunsLine c mid new → RunsLines cs' old new
+lines_next c cs cs' old mid new run is more one = record {
   runs = runs_more old mid new run.runs more;
-  order = same ∙ run.order;
+  fits = let fits : AllByRecursion (IsCaller old.kern.limits) (c ∷ cs') = subst (λ (x : List ℕ). AllByRecursion (IsCaller old.kern.limits) x) is run.fits in fits.1;
   ordered = λ lines h.
       let was = run.ordered lines h in
-      let callers : mid.order ≡ map (λ (l : Line). l.caller) lines = run.order ∙ h.order in
-      let its = line_at n c lines (subst (λ (x : List ℕ). n < length x) callers low) (ap (λ (x : List ℕ). get_or x n c) (sym callers) ∙ at) in
-      let rest : List Line = drop (suc n) lines in
-      let here : queue_at mid.left c ≡ its.0 ∷ calls_in c rest = was.left c ∙ ap (calls_in c) its.1 ∙ ap (λ b. cond b (its.0 ∷ calls_in c rest) (calls_in c rest)) (eq-eqb c c refl) in
-      let did = one its.0 (calls_in c rest) was.idle here in
+      let its = first_line c cs' was.rest (was.theirs ∙ is) in
+      let did = one its.0 its.1 (subst (λ (ls : List Line). HasLeft ls mid) its.2 was.left) its.3 in
       record {
-        idle = did.0;
-        left = λ d.
-            let goal : Bool → Type 0 = λ b. queue_at mid.left d ≡ cond b (its.0 ∷ calls_in d rest) (calls_in d rest) → unwrap_or (cond b (Some (calls_in c rest)) (get mid.left d)) [] ≡ calls_in d rest in
-            let put : queue_at (insert mid.left c (calls_in c rest)) d ≡ calls_in d rest = ap (λ o. unwrap_or o []) (get-put mid.left c (calls_in c rest) d) ∙ by_caller c d goal (λ e _. ap (λ x. calls_in x rest) (sym e)) (λ e. e) (was.left d ∙ ap (calls_in d) its.1) in
-            ap (λ (q : Queues). queue_at q d) did.1 ∙ put;
-        run = did.2 ∙ ap (λ (t : List Line). t ++ record { caller = c; call = its.0 } ∷ []) was.run
-            ∙ append_assoc (lines_of old.kern.history) (take n lines) (record { caller = c; call = its.0 } ∷ [])
-            ∙ ap (λ (t : List Line). lines_of old.kern.history ++ t) (sym its.2);
+        run = was.run ++ its.0 ∷ [];
+        rest = its.1;
+        all = was.all ∙ ap (λ (t : List Line). was.run ++ t) its.2 ∙ sym (append_assoc was.run (its.0 ∷ []) its.1);
+        theirs = its.4;
+        left = did.0;
+        entered = did.1 ∙ ap (λ (t : List Line). t ++ its.0 ∷ []) was.entered ∙ append_assoc (lines_of old.kern.history) was.run (its.0 ∷ []);
       };
-})
+}
 
-all_lines : (n : ℕ) (xs : List Line) → n ≡ length (map (λ (l : Line). l.caller) xs) → (drop n xs ≡ []) × (take n xs ≡ xs)
-all_lines zero [] e = (refl, refl)
-all_lines zero (x ∷ xs) e = absurd (omega arith)
-all_lines (suc n) [] e = absurd (omega arith)
-all_lines (suc n) (x ∷ xs) e = let r = all_lines n xs (omega arith) in (r.0, ap (λ (t : List Line). x ∷ t) r.1)
+-- whose line is next
+pub next_fits : (c : ℕ) (cs cs' : List ℕ) (old mid : Work) → RunsLines cs old mid → cs ≡ c ∷ cs' → IsCaller mid.kern.limits c
+next_fits c cs cs' old mid run is =
+    let fits : AllByRecursion (IsCaller old.kern.limits) (c ∷ cs') = subst (λ (x : List ℕ). AllByRecursion (IsCaller old.kern.limits) x) is run.fits in
+    subst (λ (l : Limits). IsCaller l c) (sym run.runs.limits) fits.0
+
+no_lines : (xs : List Line) → map (λ (l : Line). l.caller) xs ≡ [] → xs ≡ []
+no_lines [] e = refl
+no_lines (x ∷ xs) e = absurd (let some : suc (length (map (λ (l : Line). l.caller) xs)) ≡ 0 = ap length e in omega arith)
 
 no_calls : (es : List Entry) → ((d : ℕ) → calls_of d es ≡ []) → lines_of es ≡ []
 no_calls [] none = refl
@@ -590,26 +756,20 @@ no_more_calls a b x e =
     no_items b (omega arith)
 
 -- all lines have been run, and nobody has anything left that a further run might run
-pub lines_end : (n : ℕ) (old mid new : Work) → RunsLines n old mid → n ≡ length mid.order → Runs mid new → (lines : List Line) → HasLeft lines old → lines_of new.kern.history ≡ lines_of old.kern.history ++ lines
-lines_end n old mid new run all more lines h =
+pub lines_end : (cs : List ℕ) (old mid new : Work) → RunsLines cs old mid → cs ≡ [] → Runs mid new → (lines : List Line) → HasLeft lines old → lines_of new.kern.history ≡ lines_of old.kern.history ++ lines
+lines_end cs old mid new run all more lines h =
     let was = run.ordered lines h in
-    let whole = all_lines n lines (all ∙ ap length (run.order ∙ h.order)) in
-    let idle : (d : ℕ) → option_to_list (get mid.kern.pending d) ++ queue_at mid.left d ≡ [] = λ d.
-    ap (λ o. option_to_list o ++ queue_at mid.left d) (ap (λ m. get m d) was.idle ∙ get-empty nat_cmp d) ∙ was.left d ∙ ap (calls_in d) whole.0
-    in
+    let whole : was.rest ≡ [] = no_lines was.rest (was.theirs ∙ all) in
+    let idle : (d : ℕ) → calls_at mid d ≡ [] = λ d. was.left.left d ∙ ap (calls_in d) whole in
     let none : (d : ℕ) → calls_of d more.extends.more ≡ [] = λ d.
-    no_more_calls (calls_of d mid.kern.history) (calls_of d more.extends.more) (option_to_list (get new.kern.pending d) ++ queue_at new.left d)
-    (ap (λ (t : List Call). t ++ (option_to_list (get new.kern.pending d) ++ queue_at new.left d)) (sym (ap (calls_of d) more.extends.is ∙ calls_append d mid.kern.history more.extends.more))
+    no_more_calls (calls_of d mid.kern.history) (calls_of d more.extends.more) (calls_at new d)
+    (ap (λ (t : List Call). t ++ calls_at new d) (sym (ap (calls_of d) more.extends.is ∙ calls_append d mid.kern.history more.extends.more))
     ∙ more.each_call d ∙ ap (λ (t : List Call). calls_of d mid.kern.history ++ t) (idle d))
     in
     ap lines_of more.extends.is ∙ lines_append mid.kern.history more.extends.more
     ∙ ap (λ (t : List Line). lines_of mid.kern.history ++ t) (no_calls more.extends.more none) ∙ append-nil (lines_of mid.kern.history)
-    ∙ was.run ∙ ap (λ (t : List Line). lines_of old.kern.history ++ t) whole.1
+    ∙ was.entered ∙ ap (λ (t : List Line). lines_of old.kern.history ++ t) (sym (was.all ∙ ap (λ (t : List Line). was.run ++ t) whole ∙ append-nil was.run))
 
 pub on_ok : {A E : Type 0} (r : Result A E) (P : Type 0) → P → OnOk r P
 on_ok (Ok x) P h = h
 on_ok (Err e) P h = tt
-
--- the lines in the order that stands, as many as in that at first
-pub whole_order : (inside old new : Work) {n : ℕ} → inside ≡ old → new.order ≡ old.order → n ≡ length inside.order → n ≡ length new.order
-whole_order inside old new is same long = long ∙ ap (λ (j : Work). length j.order) is ∙ ap length (sym same)

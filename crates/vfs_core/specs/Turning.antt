@@ -1,7 +1,9 @@
 -- What turns do.
-use Rattle.std.specs.Prelude.{ℕ, zero, suc, ◌+◌, ◌*◌, ◌≡◌, ◌<◌, Bool, true, not, ◌==◌, if◌then◌else◌, List, [], ◌∷◌, ◌++◌, map, length, take, drop, Some, None, IsSome, is_some, ◌⊎◌}
+use Rattle.std.specs.Prelude.{ℕ, zero, suc, ◌+◌, ◌*◌, ◌≡◌, ◌<◌, Bool, true, not, ◌==◌, nat_lt, if◌then◌else◌, List, [], ◌∷◌, ◌++◌, map, length, reverse, unwrap_or, Some, None, IsSome, is_some, ◌⊎◌}
 use Rattle.std.specs.Option.{option_to_list}
-use Rattle.std.specs.FinMap.{get, insert, remove, empty}
+use Rattle.std.specs.FinMap.{FinMap, get, insert, remove}
+use Rattle.std.specs.List.{AllByRecursion}
+use Rattle.std.specs.Ordering.{nat_cmp}
 use Rattle.vfs_tree.specs.Limits.{IsCaller}
 use Rattle.vfs_tree.specs.declared.limits.Limits.{Limits}
 use Rattle.call_model.specs.Legal.{Extends, calls_of, calls_in}
@@ -25,9 +27,13 @@ use Rattle.vfs_core.specs.declared.job.Turned.TheVariants as turned
 abbrev pub FitsJob : Limits → Line → Type 0
 FitsJob limits line = IsCaller limits line.caller
 
+-- a caller's live call, then its calls left
+abbrev pub calls_at : Work → ℕ → List Call
+calls_at job c = option_to_list (get job.kern.pending c) ++ queue_at job.left c
+
 -- a caller's calls in the history, then its live call, then its calls left
 abbrev pub calls_with : Work → ℕ → List Call
-calls_with job c = calls_of c job.kern.history ++ (option_to_list (get job.kern.pending c) ++ queue_at job.left c)
+calls_with job c = calls_of c job.kern.history ++ calls_at job c
 
 -- a turn of a caller: its live call is stepped; else its next call is begun, unless it has none or memory is wanting
 abbrev pub Turns : Work → Work → ℕ → Turned → Type 0
@@ -49,11 +55,46 @@ pub record IsDone (job : Work) (c : ℕ) : Type 0 where
   pub live : get job.kern.pending c ≡ None
   pub left : queue_at job.left c ≡ []
 
+-- ---- the lines that are left
+
+-- how many calls a caller has live or left
+abbrev pub owed : Work → ℕ → ℕ
+owed job c = length (calls_at job c)
+
+-- how many of these callers are the one
+abbrev pub times : ℕ → List ℕ → ℕ
+times c [] = 0
+times c (d ∷ ds) = if c == d then suc (times c ds) else times c ds
+
+-- of the callers of all lines, those of the lines that have not ended: of each caller the last ones, as many as it is owed
+abbrev pub callers_left : (ℕ → ℕ) → List ℕ → List ℕ
+callers_left owed [] = []
+callers_left owed (c ∷ cs) = if nat_lt (times c cs) (owed c) then c ∷ callers_left owed cs else callers_left owed cs
+
+-- these lines have not ended, in this order: a live call is that of the first one of its caller
+pub record HasLeft (lines : List Line) (job : Work) : Type 0 where
+  pub order : map (λ (l : Line). l.caller) lines ≡ callers_left (owed job) job.order
+  pub left : (c : ℕ) → calls_at job c ≡ calls_in c lines
+
+-- the lines without the first one of a caller
+abbrev pub without_first : ℕ → List Line → List Line
+without_first c [] = []
+without_first c (l ∷ ls) = if c == l.caller then ls else l ∷ without_first c ls
+
+-- the lines that are left after a turn of a caller: where its live call ended, its first one isn't
+abbrev pub lines_left : ℕ → Turned → List Line → List Line
+lines_left c turned.Idle lines = lines
+lines_left c turned.NoMemory lines = lines
+lines_left c turned.Began lines = lines
+lines_left c (turned.Did stepped.Went) lines = lines
+lines_left c (turned.Did (stepped.Ended reply)) lines = without_first c lines
+
 -- callers have had turns
 pub record Runs (old new : Work) : Type 0 where
   pub limits : new.kern.limits ≡ old.kern.limits
   pub extends : Extends old.kern.history new.kern.history
   pub each_call : (d : ℕ) → calls_with new d ≡ calls_with old d
+  pub left : (lines : List Line) → HasLeft lines old → (rest : List Line) × HasLeft rest new
 
 -- ---- in the order of a seed
 
@@ -107,12 +148,6 @@ lines_of [] = []
 lines_of (entry.Call c call r ∷ es) = record { caller = c; call = call } ∷ lines_of es
 lines_of (entry.Inner c x ∷ es) = lines_of es
 
--- no call is live, and these lines are left, in this order
-pub record HasLeft (lines : List Line) (job : Work) : Type 0 where
-  pub idle : job.kern.pending ≡ empty
-  pub order : job.order ≡ map (λ (l : Line). l.caller) lines
-  pub left : (c : ℕ) → queue_at job.left c ≡ calls_in c lines
-
 -- a live call of a caller ended: its entry is the one call entry that is new
 pub record Ends (old new : Kernel) (c : ℕ) : Type 0 where
   pub call : Call
@@ -127,25 +162,33 @@ pub record GoesOn (old new : Kernel) : Type 0 where
   pub none : lines_of more ≡ []
   pub is : new ≡ record old { history = old.history ++ more }
 
--- where no call was live, the first n lines have been run, and the others are left
-pub record HasRun (n : ℕ) (lines : List Line) (old new : Work) : Type 0 where
-  pub idle : new.kern.pending ≡ empty
-  pub left : (c : ℕ) → queue_at new.left c ≡ calls_in c (drop n lines)
-  pub run : lines_of new.kern.history ≡ lines_of old.kern.history ++ take n lines
+-- some of these lines have been run, in their order, and the others are left, whose callers are these
+pub record HasRun (lines : List Line) (callers : List ℕ) (old new : Work) : Type 0 where
+  pub run : List Line
+  pub rest : List Line
+  pub all : lines ≡ run ++ rest
+  pub theirs : map (λ (l : Line). l.caller) rest ≡ callers
+  pub left : HasLeft rest new
+  pub entered : lines_of new.kern.history ≡ lines_of old.kern.history ++ run
 
--- where no call was live, the next call of a caller has been run
+-- the first line that is left has been run, if it is the caller's
 abbrev pub RunsLine : ℕ → Work → Work → Type 0
 RunsLine c old new =
-    (call : Call) (rest : List Call) → old.kern.pending ≡ empty → queue_at old.left c ≡ call ∷ rest
-    → (new.kern.pending ≡ empty) × (new.left ≡ insert old.left c rest)
-    × (lines_of new.kern.history ≡ lines_of old.kern.history ++ record { caller = c; call = call } ∷ [])
+    (l : Line) (rest : List Line) → HasLeft (l ∷ rest) old → l.caller ≡ c
+    → HasLeft rest new × (lines_of new.kern.history ≡ lines_of old.kern.history ++ l ∷ [])
 
 -- a caller's next call was begun, or one was live
 abbrev pub StartsLine : ℕ → Work → Work → Type 0
 StartsLine c old new = Begins old new c begun.Began ⊎ ((new ≡ old) × IsSome (get old.kern.pending c))
 
--- the lines up to n have been run
-pub record RunsLines (n : ℕ) (old new : Work) : Type 0 where
+-- lines have been run, and those of these callers are left
+pub record RunsLines (callers : List ℕ) (old new : Work) : Type 0 where
   pub runs : Runs old new
-  pub order : new.order ≡ old.order
-  pub ordered : (lines : List Line) → HasLeft lines old → HasRun n lines old new
+  pub fits : AllByRecursion (IsCaller old.kern.limits) callers
+  pub ordered : (lines : List Line) → HasLeft lines old → HasRun lines callers old new
+
+-- Seen from the last line on, down to the first one of this rest of the callers of all lines: these are the callers of its
+-- lines that have not ended, the last one first, and so often each caller stands in it.
+pub record IsSought (owed : ℕ → ℕ) (found : List ℕ) (seen : FinMap nat_cmp ℕ) (rest : List ℕ) : Type 0 where
+  pub callers : reverse found ≡ callers_left owed rest
+  pub later : (c : ℕ) → unwrap_or (get seen c) 0 ≡ times c rest

@@ -1,11 +1,11 @@
-ghost use Rattle.std.specs.Prelude.{◌≡◌, ◌++◌, ◌<◌, ℕ, List, true, false, suc, IfOk, OnOk, IsSome, None};
+ghost use Rattle.std.specs.Prelude.{◌≡◌, ◌++◌, ◌<◌, ℕ, List, true, false, suc, IfOk, OnOk, IsSome, None, nat_lt};
 ghost use Rattle.std.specs.List.{AllByRecursion};
 ghost use Rattle.std.specs.FinMap as map;
 ghost use Rattle.vfs_tree.specs.Limits.{IsCaller};
 ghost use Rattle.vfs_tree.specs.Start.{start_world};
 ghost use Rattle.call_model.specs.Legal.{IsLegal, Extends, calls_of, calls_in};
 ghost use Rattle.call_model.specs.declared.call.Line.{Line};
-ghost use Rattle.vfs_core.specs.Turning.{FitsJob, Turns, Begins, Runs, IsDone, calls_with, is_ready, ready_to, ready, Paces, pace_of, calls_left, HasLeft, RunsLine, Ends, lines_of};
+ghost use Rattle.vfs_core.specs.Turning.{FitsJob, Turns, Begins, Runs, IsDone, calls_with, owed, callers_left, HasLeft, lines_left, is_ready, ready_to, ready, Paces, pace_of, calls_left, RunsLine, Ends, lines_of};
 
 use crate::kern::{Kern, Stepped};
 use crate::queue::{Begun, CallQueue, enqueue};
@@ -101,6 +101,8 @@ impl Job {
         ensures extends { Extends self.old.kern.history self.new.kern.history }
         // Each caller's calls in it, then its live call, then its calls left are what they were.
         ensures each_call { (c : ℕ) → calls_with self.new c ≡ calls_with self.old c }
+        // The lines that were left are left, but the caller's first one where its call ended.
+        ensures left { (lines : List Line) → HasLeft lines self.old → HasLeft (lines_left caller result lines) self.new }
     {
         if self.kern.is_live(caller) {
             let stepped = self.kern.step(alloc, caller);
@@ -211,7 +213,6 @@ impl Job {
     fn run_line(&mut self, alloc: Global, caller: u32) -> Result<(), AllocError>
         requires { IsCaller self.old.kern.limits caller }
         ensures runs { Runs self.old self.new }
-        ensures order { self.new.order ≡ self.old.order }
         ensures line { OnOk result (RunsLine caller self.old self.new) }
     {
         if !self.kern.is_live(caller) {
@@ -223,6 +224,39 @@ impl Job {
         }
         end_call(alloc, &mut self.kern, caller);
         Ok(())
+    }
+
+    /// Whether a caller has more than that many calls live or left.
+    fn is_owed_more(&self, caller: u32, count: usize) -> bool
+        ensures { result ≡ nat_lt count (owed self.now caller) }
+    {
+        let queued = match self.left.get(caller) {
+            Some(queue) => queue.len(),
+            None => 0,
+        };
+        if self.kern.is_live(caller) {
+            return count <= queued;
+        }
+        count < queued
+    }
+
+    /// The callers of the lines that have not ended, in the order of the lines. The only fault is want of memory.
+    fn callers_left(&self, alloc: Global) -> Result<Vec<u32>, AllocError>
+        ensures callers { IfOk result (λ callers. callers.items ≡ callers_left (owed self.now) self.now.order) }
+        ensures fits { IfOk result (λ callers. AllByRecursion (IsCaller self.now.kern.limits) callers.items) }
+    {
+        let mut callers = Vec::new(alloc);
+        let mut later = NumberMap::new(alloc);
+        for at in (0..self.order.len()).rev() {
+            let caller = self.order[at];
+            let count = later.get(caller).copied().unwrap_or(0);
+            if self.is_owed_more(caller, count) {
+                callers.push(caller)?;
+            }
+            later.insert(caller, count + 1)?;
+        }
+        callers.reverse();
+        Ok(callers)
     }
 
     /// Runs all calls that are left. Turns count from 0; each goes to one of the callers that have a call live or left, in
@@ -237,16 +271,16 @@ impl Job {
         Ok(())
     }
 
-    /// Runs all calls that are left, each to its end, in the order of their lines. The only fault is want of memory, after
-    /// which the turns that were made stand.
+    /// Runs all calls that are left, each to its end, in the order of their lines; a call that is live stands at the place of
+    /// its line. The only fault is want of memory, after which the turns that were made stand.
     pub fn run_order(&mut self, alloc: Global) -> Result<(), AllocError>
         ensures runs { Runs self.old self.new }
         ensures done { OnOk result ((c : ℕ) → IsDone self.new c) }
-        // Where no call is live, the call entries that are new are the lines that were left, in their order.
+        // The call entries that are new are the lines that were left, in their order.
         ensures ordered { OnOk result ((lines : List Line) → HasLeft lines self.old → lines_of self.new.kern.history ≡ lines_of self.old.kern.history ++ lines) }
     {
-        for at in 0..self.order.len() {
-            let caller = self.order[at];
+        let callers = self.callers_left(alloc)?;
+        for caller in callers {
             self.run_line(alloc, caller)?;
         }
         self.run_seed(alloc, 0)

@@ -58,6 +58,13 @@ impl CallQueue {
         }
     }
 
+    /// How many calls there are.
+    pub fn len(&self) -> usize
+        ensures { result ≡ length self.now }
+    {
+        self.calls.len()
+    }
+
     /// Whether there is no call.
     pub fn is_empty(&self) -> bool
         ensures { result ≡ (length self.now == 0) }

@@ -1,6 +1,6 @@
 use Rattle.std.proofs.Common.{sym, ◌∙◌}
 use Rattle.vfs_core.specs.Turning.{StartsLine}
-use Rattle.vfs_core.proofs.TurnLaws.{starts_begun, starts_here, starts_live, starts_runs, starts_line, running-ends}
+use Rattle.vfs_core.proofs.TurnLaws.{starts_begun, starts_here, starts_live, starts_runs, starts_line, idle_line, running-ends}
 use Rattle.vfs_core.proofs.job.Job.run_line.Goals as goal
 use Rattle.vfs_core.proofs.job.Job.run_line.Goals.{then-not-is_live+in-Began, else-not-is_live}
 
@@ -36,3 +36,6 @@ returns-clause-line c =
     ]
     in
     starts_line _ _ _ _ start c.end_call.ensures.ended
+
+pub returns-in-Idle-clause-line : goal.returns-in-Idle-clause-line
+returns-in-Idle-clause-line c = idle_line _ _ _ _ _ c.begin.ensures.begun c.in-Idle.is
