@@ -24,7 +24,7 @@ use Rattle.vfs_core.specs.Kernel.{Kernel}
 use Rattle.vfs_core.specs.Stepping.{Steps, dooms}
 use Rattle.vfs_core.specs.declared.kern.Stepped.{Stepped}
 use Rattle.vfs_core.specs.declared.kern.Stepped.TheVariants as stepped
-use Rattle.vfs_core.specs.Seats.{Part, part_of, Passing, Sharing, shared, Seating, seated, made, has_number, own_calls, mine, known_calls, IsSeatOf, IsSeated, IsResting, IsCalling, TookTurn, EndsTurn, StepsTurn, Called, CameBack}
+use Rattle.vfs_core.specs.Seats.{Part, part_of, Passing, Sharing, shared, Seating, seated, made, has_number, own_calls, mine, known_calls, IsSeatOf, IsSeated, IsResting, IsCalling, BeginsCall, ChangesOnce, MayEnd, HadTurn, TookTurn, EndsTurn, StepsTurn, Called, CameBack}
 use Rattle.vfs_core.proofs.TurnLaws.{get-put, get-taken, calls_append, inner_keeps, dooms_keep}
 
 -- ---- options
@@ -80,21 +80,6 @@ pub record Changes (c : ℕ) (y z : Kernel) : Type 0 where
   pub limits : z.limits ≡ y.limits
   pub later : Extends y.history z.history
   pub others : (n : ℕ) → n ≢ c → part_of z n ≡ part_of y n
-
--- what the lock asks of a value that is given back
-pub gives_later : (limits : Limits) (c : ℕ) (old mid : Passing) (y z : Kernel) → Enters limits old mid y → Changes c y z → StartsWith z.history mid.seen
-gives_later limits c old mid y z e ch = (ch.later.more, ch.later.is ∙ ap (λ t. t ++ ch.later.more) (sym e.seen))
-
-pub gives_others : (limits : Limits) (c : ℕ) (old mid : Passing) (y z : Kernel) → Enters limits old mid y → Changes c y z → lock.has_number c old ≡ true
-    → (out : Kernel) (n : ℕ) → mid.held ≡ Some out → lock.has_number n mid ≡ false → part_of z n ≡ part_of out n
-gives_others limits c old mid y z e ch own out n held none =
-    let same : y ≡ out = same_Some y out (sym e.holds ∙ held) in
-    let apart : n ≢ c = λ is.
-    let there : lock.has_number n mid ≡ true = ap (is_in n) e.parts ∙ ap (λ k. lock.has_number k old) is ∙ own in
-    let clash : false ≡ true = sym none ∙ there in
-    cc
-    in
-    ch.others n apart ∙ ap (λ (k : Kernel). part_of k n) same
 
 -- what is known of a number, where its part stays
 kept_at : (limits : Limits) (old mid new : Passing) (y z : Kernel) → Enters limits old mid y → Leaves mid new z → (n : ℕ) → part_of z n ≡ part_of y n
@@ -214,6 +199,70 @@ step_turn limits c old mid new y z (stepped.Ended reply) e l h = λ calls call w
       last = l.seen ∙ ap (λ (k : Kernel). k.history) h.3 ∙ ap (λ (k : Call). y.history ++ (dooms c h.1 ++ entry.Call c k reply ∷ [])) own.1
           ∙ sym (append_assoc y.history (dooms c h.1) (entry.Call c call reply ∷ []));
     }
+
+-- a turn changes its caller's part alone
+once_changes : (c : ℕ) (y z : Kernel) → ChangesOnce c y z → Changes c y z
+once_changes c y z (inl same) = same_changes c y z same
+once_changes c y z (inr (inl begun)) = begun_changes c y z begun.0 begun.1.1
+once_changes c y z (inr (inr step)) = step_changes c y z step.0 step.1
+
+-- what the lock asks of a kernel that is given back
+pub gives_held : (limits : Limits) (mid : Passing) (z : Kernel) → MayEnd limits mid z → IsSome mid.held
+gives_held limits mid z t = ap is_some t.holds
+
+pub gives_later : (limits : Limits) (mid : Passing) (z : Kernel) → MayEnd limits mid z → StartsWith z.history mid.seen
+gives_later limits mid z t =
+    let ch = once_changes t.caller t.out z t.once in
+    (ch.later.more, ch.later.is ∙ ap (λ h. h ++ ch.later.more) (sym t.seen))
+
+pub gives_same : (limits : Limits) (mid : Passing) (z : Kernel) → MayEnd limits mid z → z.limits ≡ limits
+gives_same limits mid z t = (once_changes t.caller t.out z t.once).limits ∙ t.same
+
+pub gives_others : (limits : Limits) (mid : Passing) (z : Kernel) → MayEnd limits mid z
+    → (out : Kernel) (n : ℕ) → mid.held ≡ Some out → lock.has_number n mid ≡ false → part_of z n ≡ part_of out n
+gives_others limits mid z t out n held none =
+    let same : t.out ≡ out = same_Some t.out out (sym t.holds ∙ held) in
+    let apart : n ≢ t.caller = λ is.
+    let clash : false ≡ true = sym none ∙ ap (λ k. lock.has_number k mid) is ∙ t.has in
+    cc
+    in
+    (once_changes t.caller t.out z t.once).others n apart ∙ ap (λ (k : Kernel). part_of k n) same
+
+-- a turn may end after one `begin`, and after one `step`
+begin_once : (c : ℕ) (y z : Kernel) (call : Call) (r : Result (Unit {0}) Call) → get y.pending c ≡ None
+    → OnOk r (z ≡ record y { pending = insert y.pending c call }) → OnErr r (z ≡ y) → ChangesOnce c y z
+begin_once c y z call (Ok x) idle begun same = inr (inl (call, (idle, begun)))
+begin_once c y z call (Err x) idle begun same = inl same
+
+may_end : (limits : Limits) (c : ℕ) (old mid : Passing) (y z : Kernel) → Enters limits old mid y → lock.has_number c old ≡ true → ChangesOnce c y z → MayEnd limits mid z
+may_end limits c old mid y z e has once = record { out = y; holds = e.holds; seen = e.seen; same = e.same; caller = c; has = ap (is_in c) e.parts ∙ has; once = once }
+
+pub begin_ends : (limits : Limits) (c : ℕ) (old mid : Passing) (y z : Kernel) (calls : List Call) (call : Call) (r : Result (Unit {0}) Call) → Enters limits old mid y → IsResting c old calls
+    → OnOk r (z ≡ record y { pending = insert y.pending c call }) → OnErr r (z ≡ y) → MayEnd limits mid z
+begin_ends limits c old mid y z calls call r e was begun same =
+    may_end limits c old mid y z e (ap is_some was) (begin_once c y z call r (ap (λ (q : Part). q.1) (e.known c (calls, None) was)) begun same)
+
+pub step_ends : (limits : Limits) (c : ℕ) (old mid : Passing) (y z : Kernel) (calls : List Call) (call : Call) (r : Stepped) → Enters limits old mid y → IsCalling c old calls call
+    → Steps y z c r → MayEnd limits mid z
+step_ends limits c old mid y z calls call r e was step = may_end limits c old mid y z e (ap is_some was) (inr (inr (r, step)))
+
+-- what came out of the lock and what went back
+had_turn : (limits : Limits) (old mid new : Passing) (y z : Kernel) → Enters limits old mid y → Leaves mid new z → HadTurn limits old new y z
+had_turn limits old mid new y z e l = record { later = extends_from old.seen y.history e.later; same = e.same; seen = l.seen }
+
+begins_call : (c : ℕ) (y z : Kernel) (call : Call) (r : Result (Unit {0}) Call) → get y.pending c ≡ None → OnOk r (z ≡ record y { pending = insert y.pending c call }) → OnOk r (BeginsCall y z c call)
+begins_call c y z call (Ok x) idle begun = (idle, begun)
+begins_call c y z call (Err x) idle begun = tt
+
+pub one_begin : (limits : Limits) (c : ℕ) (old mid new : Passing) (y z : Kernel) (calls : List Call) (call : Call) (r : Result (Unit {0}) Call) → Enters limits old mid y → Leaves mid new z
+    → IsResting c old calls → OnOk r (z ≡ record y { pending = insert y.pending c call }) → OnErr r (z ≡ y)
+    → (out back : Kernel) × HadTurn limits old new out back × OnOk r (BeginsCall out back c call) × OnErr r (back ≡ out)
+one_begin limits c old mid new y z calls call r e l was begun same =
+    (y, z, had_turn limits old mid new y z e l, begins_call c y z call r (ap (λ (q : Part). q.1) (e.known c (calls, None) was)) begun, same)
+
+pub one_step : (limits : Limits) (c : ℕ) (old mid new : Passing) (y z : Kernel) (r : Stepped) → Enters limits old mid y → Leaves mid new z → Steps y z c r
+    → (out back : Kernel) × HadTurn limits old new out back × Steps out back c r
+one_step limits c old mid new y z r e l step = (y, z, had_turn limits old mid new y z e l, step)
 
 -- what a kernel has of a caller that rests, or calls
 pub rests_at : (limits : Limits) (c : ℕ) (old mid : Passing) (y : Kernel) (calls : List Call) → Enters limits old mid y → IsResting c old calls → get y.pending c ≡ None

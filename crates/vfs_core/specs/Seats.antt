@@ -1,6 +1,6 @@
 -- Kernels that threads share: what contracts see of one and of its seats, and what a call does.
-use Rattle.std.specs.Prelude.{ℕ, ◌+◌, ◌≡◌, ◌≢◌, ◌≤◌, Bool, true, List, [], ◌∷◌, ◌++◌, length, drop, Option, Some, None, is_some, option_map, unwrap_or}
-use Rattle.std.specs.FinMap.{get}
+use Rattle.std.specs.Prelude.{ℕ, ◌+◌, ◌≡◌, ◌≢◌, ◌≤◌, ◌⊎◌, Bool, true, List, [], ◌∷◌, ◌++◌, length, drop, Option, Some, None, is_some, option_map, unwrap_or}
+use Rattle.std.specs.FinMap.{get, insert}
 use Rattle.vfs_tree.specs.Limits.{IsCaller}
 use Rattle.vfs_tree.specs.Start.{start_world}
 use Rattle.vfs_tree.specs.declared.limits.Limits.{Limits}
@@ -13,6 +13,7 @@ use Rattle.atomic_table.specs.Seated.{TableId}
 use Rattle.turn_lock.specs.Known.{Lock, Known, known_part, part_in}
 use Rattle.turn_lock.specs.Known as lock
 use Rattle.vfs_core.specs.Kernel.{Kernel}
+use Rattle.vfs_core.specs.Stepping.{Steps}
 use Rattle.vfs_core.specs.declared.kern.Stepped.{Stepped}
 use Rattle.vfs_core.specs.declared.kern.Stepped.TheVariants as stepped
 
@@ -129,6 +130,31 @@ IsResting c pass calls = known_part c pass ≡ Some (calls, None)
 -- a caller that a pass has has made these calls, and has this one live
 abbrev pub IsCalling : ℕ → Passing → List Call → Call → Type 0
 IsCalling c pass calls call = known_part c pass ≡ Some (calls, Some call)
+
+-- a caller without a live call has this one live
+abbrev pub BeginsCall : Kernel → Kernel → ℕ → Call → Type 0
+BeginsCall old new c call = (get old.pending c ≡ None) × (new ≡ record old { pending = insert old.pending c call })
+
+-- nothing changed, or one call of a caller was begun, or its live call was stepped once
+abbrev pub ChangesOnce : ℕ → Kernel → Kernel → Type 0
+ChangesOnce c old new = (new ≡ old) ⊎ (((call : Call) × BeginsCall old new c call) ⊎ ((stepped : Stepped) × Steps old new c stepped))
+
+-- a turn may end: the kernel that goes back to the lock is the one that came out of it, changed once at most
+pub record MayEnd (limits : Limits) (pass : Passing) (back : Kernel) : Type 0 where
+  pub out : Kernel
+  pub holds : pass.held ≡ Some out
+  pub seen : pass.seen ≡ out.history
+  pub same : out.limits ≡ limits
+  pub caller : ℕ
+  pub has : lock.has_number caller pass ≡ true
+  pub once : ChangesOnce caller out back
+
+-- a pass had a turn, in which one kernel came out of the lock and another went back: the first has the lock's limits, and a
+-- history that begins with what the pass had seen; the history of the other is what the pass has now seen
+pub record HadTurn (limits : Limits) (old new : Passing) (out back : Kernel) : Type 0 where
+  pub later : Extends old.seen out.history
+  pub same : out.limits ≡ limits
+  pub seen : new.seen ≡ back.history
 
 -- a pass had a turn for a caller: what it has now seen begins with what it had, and is legal with some pending calls; it
 -- knows the part of each of its numbers in that history, and of the caller's alone it may have changed
