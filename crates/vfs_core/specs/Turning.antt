@@ -187,8 +187,8 @@ pub record RunsLines (callers : List ℕ) (old new : Work) : Type 0 where
   pub fits : AllByRecursion (IsCaller old.kern.limits) callers
   pub ordered : (lines : List Line) → HasLeft lines old → HasRun lines callers old new
 
--- Seen from the last line on, down to the first one of this rest of the callers of all lines: these are the callers of its
--- lines that have not ended, the last one first, and so often each caller stands in it.
+-- The lines of these last callers have been seen, from the last one on: found are the callers of those that have not ended,
+-- the last one first, and seen is how often each caller stands among them all.
 pub record IsSought (owed : ℕ → ℕ) (found : List ℕ) (seen : FinMap nat_cmp ℕ) (rest : List ℕ) : Type 0 where
   pub callers : reverse found ≡ callers_left owed rest
   pub later : (c : ℕ) → unwrap_or (get seen c) 0 ≡ times c rest
