@@ -6,3 +6,4 @@ pub mod SureLaws
 pub mod LineLaws
 pub mod TurnLaws
 pub mod SeatLaws
+pub mod Sending

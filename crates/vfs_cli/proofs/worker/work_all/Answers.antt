@@ -1,6 +1,7 @@
 use denote.Param.Send.{sendable}
 use Rattle.std.proofs.alloc.Global.TheSendSync.{the_sync as alloc-sync}
-use Rattle.vfs_cli.proofs.Sending.{plan-send, seat-send, vfs-sync}
+use Rattle.vfs_core.proofs.Sending.{seat-send, vfs-sync}
+use Rattle.vfs_cli.proofs.Sending.{plan-send}
 use Rattle.vfs_cli.proofs.worker.work_all.Goals as goal
 
 pub for_each_mut-requires-send-T : goal.for_each_mut-requires-send-T
