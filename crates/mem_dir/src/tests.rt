@@ -157,6 +157,13 @@ impl PlainDir {
         }
     }
 
+    fn find(&self, name: &Name) -> Option<NameEntry> {
+        match self.records.get(self.place(name)) {
+            Some(record) if record.0 == *name => Some(record.1),
+            _ => None,
+        }
+    }
+
     /// The names that give a whiteout, or those that give an inode.
     fn list(&self, alloc: Global, white: bool) -> Result<Vec<Name>, Fail> {
         let mut names = Vec::new(alloc);
@@ -182,20 +189,79 @@ fn insert(
     plain.insert(name_of(alloc, number)?, entry_of(what))
 }
 
-/// One edit of both forms, by a number: a name that is new, one that was there from the start, a removal, or the last
-/// name. It answers whether both answer alike.
-fn edit(alloc: Global, number: u32, dir: &mut Dir, plain: &mut PlainDir) -> Result<bool, Fail> {
-    let which = number / 4 % 300 * 3;
-    match number % 4 {
-        0 => insert(alloc, which + 1, number, dir, plain)?,
-        1 => insert(alloc, which, number, dir, plain)?,
-        2 => {
-            let name = name_of(alloc, which)?;
-            return Ok(dir.remove(&name) == plain.remove(&name));
+/// Takes the name of that number away from both forms. It answers whether both answer alike.
+fn remove(alloc: Global, number: u32, dir: &mut Dir, plain: &mut PlainDir) -> Result<bool, Fail> {
+    let name = name_of(alloc, number)?;
+    Ok(dir.remove(&name) == plain.remove(&name))
+}
+
+/// Puts names into both forms in nine groups of 32, each of which fills a block by half.
+fn fill_by_half(alloc: Global, dir: &mut Dir, plain: &mut PlainDir) -> Result<(), Fail> {
+    for turn in 0..288 {
+        let turn: u32 = turn;
+        insert(alloc, turn * 3, turn, dir, plain)?;
+    }
+    Ok(())
+}
+
+/// Brings the blocks of every other group to 63 records, which leaves room for one.
+fn fill_up(alloc: Global, dir: &mut Dir, plain: &mut PlainDir) -> Result<(), Fail> {
+    for turn in 0..288 {
+        let turn: u32 = turn;
+        if turn / 32 % 2 == 0 && turn % 32 < 31 {
+            insert(alloc, turn * 3 + 1, turn, dir, plain)?;
         }
+    }
+    Ok(())
+}
+
+/// Leaves the blocks of the other groups one record each.
+fn thin_out(alloc: Global, dir: &mut Dir, plain: &mut PlainDir) -> Result<bool, Fail> {
+    let mut alike = true;
+    for turn in 0..288 {
+        let turn: u32 = turn;
+        if turn / 32 % 2 == 1 && 0 < turn % 32 {
+            alike = remove(alloc, turn * 3, dir, plain)? && alike;
+        }
+    }
+    Ok(alike)
+}
+
+/// The number of a name of a block near full, by a number.
+fn chosen(number: u32) -> u32
+    ensures { result ≤ 861 }
+{
+    number / 5 % 5 * 192 + number / 25 % 32 * 3
+}
+
+/// One edit of both forms, by a number: a name that is new, one that was there from the start, a removal, the removal of
+/// a block's only name, or the last name. It answers whether both answer alike.
+fn edit(alloc: Global, number: u32, dir: &mut Dir, plain: &mut PlainDir) -> Result<bool, Fail> {
+    let which = chosen(number);
+    match number % 5 {
+        0 => insert(alloc, which + 2, number, dir, plain)?,
+        1 => insert(alloc, which, number, dir, plain)?,
+        2 => return remove(alloc, which, dir, plain),
+        3 => return remove(alloc, number / 5 % 4 * 192 + 96, dir, plain),
         _ => return Ok(dir.pop_last() == plain.records.pop()),
     }
     Ok(true)
+}
+
+/// Whether both forms have the same names, and find each of the forty from that number on alike.
+fn are_alike(alloc: Global, from: u32, dir: &mut Dir, plain: &PlainDir) -> Result<bool, Fail>
+    requires { from ≤ 861 }
+{
+    for turn in 0..40 {
+        let turn: u32 = turn;
+        let name = name_of(alloc, from + turn)?;
+        if dir.find(&name) != plain.find(&name) {
+            return Ok(false);
+        }
+    }
+    let given = dir.list(alloc)? == plain.list(alloc, false)?;
+    let white = dir.list_white(alloc)? == plain.list(alloc, true)?;
+    Ok(given && white)
 }
 
 /// The next of a row of numbers that look mixed.
@@ -210,23 +276,16 @@ fn a_hundred_edits_in_blocks_and_in_one_vector(rt: HostRuntime) -> Result<(), Fa
     let mut plain = PlainDir {
         records: Vec::new(alloc),
     };
-    for turn in 0..300 {
-        let turn: u32 = turn;
-        let number = turn * 617 % 300 * 3;
-        insert(alloc, number, number, &mut dir, &mut plain)?;
-    }
-    let mut number = 7;
+    fill_by_half(alloc, &mut dir, &mut plain)?;
+    fill_up(alloc, &mut dir, &mut plain)?;
+    assert!(rt; thin_out(alloc, &mut dir, &mut plain)?);
+    assert!(rt; are_alike(alloc, 0, &mut dir, &plain)?);
+    let mut number = 1;
     for step in 0..100 {
         number = mixed(number);
-        assert!(rt; edit(alloc, number / 4096, &mut dir, &mut plain)?, "{step}");
-        assert!(rt;
-            dir.list(alloc)?.as_slice() == plain.list(alloc, false)?.as_slice(),
-            "{step}"
-        );
-        assert!(rt;
-            dir.list_white(alloc)?.as_slice() == plain.list(alloc, true)?.as_slice(),
-            "{step}"
-        );
+        let by = number / 4096;
+        assert!(rt; edit(alloc, by, &mut dir, &mut plain)?, "{step}");
+        assert!(rt; are_alike(alloc, chosen(by), &mut dir, &plain)?, "{step}");
     }
     for _turn in 0..plain.records.len() {
         assert!(rt; dir.pop_last() == plain.records.pop());
