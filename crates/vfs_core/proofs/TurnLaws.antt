@@ -639,9 +639,9 @@ sought-next owed callers callers' later later' rest c b sought test pushed put =
     let is : b ≡ nat_lt (times c rest) (owed c) = test ∙ ap (λ x. nat_lt x (owed c)) (sought.later c) in
     record {
       callers = ap reverse pushed ∙ (elim b as (λ b. reverse (cond b (callers ++ c ∷ []) callers) ≡ cond b (c ∷ callers_left owed rest) (callers_left owed rest)) [
-            | true ↦ reverse-append callers (c ∷ []) ∙ ap (λ (t : List ℕ). c ∷ t) sought.callers
-            | false ↦ sought.callers
-          ])
+        | true ↦ reverse-append callers (c ∷ []) ∙ ap (λ (t : List ℕ). c ∷ t) sought.callers
+        | false ↦ sought.callers
+      ])
           ∙ ap (λ x. cond x (c ∷ callers_left owed rest) (callers_left owed rest)) is;
       later = λ d. ap (λ m. unwrap_or (get m d) 0) put ∙ ap (λ o. unwrap_or o 0) (get-put later c (unwrap_or (get later c) 0 + 1) d) ∙ (elim (eqb_tells d c) [
         | inl e ↦

@@ -206,7 +206,10 @@ fn lines_that_are_left_run_in_order(rt: HostRuntime) -> Result<(), Fail> {
             job.turn(alloc, caller);
         }
         job.run_order(alloc)?;
-        assert!(rt; has_order(job.kern(), &[1, 2, 1]), "{turns} turns of {caller}");
+        assert!(rt;
+            has_order(job.kern(), &[1, 2, 1]),
+            "{turns} turns of {caller}"
+        );
     }
     Ok(())
 }
