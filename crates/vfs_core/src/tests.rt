@@ -172,48 +172,6 @@ fn calls_run_in_order(rt: HostRuntime) -> Result<(), Fail> {
     Ok(())
 }
 
-// Lines of two callers, of which the first has a line before and one behind that of the second.
-fn mixed(alloc: Global) -> Result<Vec<Line>, AllocError>
-    ensures { IfOk result (λ lines. AllByRecursion (FitsJob LIMITS) lines.items) }
-{
-    let first = mkdir(alloc, b"/a")?;
-    let second = mkdir(alloc, b"/c")?;
-    let third = mkdir(alloc, b"/b")?;
-    let mut lines = Vec::new(alloc);
-    lines.push(Line {
-        caller: 1,
-        call: first,
-    })?;
-    lines.push(Line {
-        caller: 2,
-        call: second,
-    })?;
-    lines.push(Line {
-        caller: 1,
-        call: third,
-    })?;
-    Ok(lines)
-}
-
-#[test]
-fn lines_that_are_left_run_in_order(rt: HostRuntime) -> Result<(), Fail> {
-    let alloc = rt.alloc();
-    // So many turns of a caller come before: its call has ended; its next one is live as well; its call is live.
-    for (caller, turns) in [(1, 2), (1, 3), (2, 1)] {
-        let mut job = Job::new(alloc, Kern::new(alloc, LIMITS)?, mixed(alloc)?)?;
-        for _ in 0..turns {
-            assert!(rt; 1 <= caller && caller <= job.kern().limits().callers);
-            job.turn(alloc, caller);
-        }
-        job.run_order(alloc)?;
-        assert!(rt;
-            has_order(job.kern(), &[1, 2, 1]),
-            "{turns} turns of {caller}"
-        );
-    }
-    Ok(())
-}
-
 const BOTH: Flags = Flags {
     access: Access::Both,
     make: true,
