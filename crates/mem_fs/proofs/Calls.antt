@@ -24,7 +24,7 @@ use Rattle.vfs_tree.specs.declared.node.NameEntry.{NameEntry}
 use Rattle.vfs_tree.specs.declared.node.NameEntry.TheVariants.{Ino, White}
 use Rattle.vfs_tree.specs.declared.node.Store.{Store}
 use Rattle.mem_fs.specs.declared.inode.Inode.{Inode}
-use Rattle.mem_fs.specs.Inodes.{Inodes, edited, with_new, with_content, kept, node_of, nodes_of, links_of, gained, given_gone, dropped_at}
+use Rattle.mem_fs.specs.Inodes.{Inodes, edited, with_new, with_content, kept, node_of, nodes_of, links_of, gained, given_gone, given_at, given_to, dropped_at, moved_to}
 use Rattle.mem_fs.specs.Rooms.{HasRoomAt, IsRoomyAt}
 use Rattle.mem_fs.proofs.Rooms.{has_room_at, roomy_gone, roomy_gained, roomy_dropped, roomy_made, roomy_kept, there_gone, get_other}
 use Rattle.vfs_tree.specs.Counts.{times, above_zero}
@@ -210,6 +210,10 @@ pub on_ok : {X E : Type 0} {P Z : Type 0} (r : Result X E) → OnOk r P → (P �
 on_ok (Ok x) p f = f p
 on_ok (Err e) p f = tt
 
+pub on_err : {X E : Type 0} {P Z : Type 0} (r : Result X E) → OnErr r P → (P → Z) → OnErr r Z
+on_err (Ok x) p f = tt
+on_err (Err e) p f = f p
+
 -- what follows of an option either way
 pub on_some : {X : Type 0} {P Q : X → Type 0} (r : Option X) → IfSome r P → ((x : X) → P x → Q x) → IfSome r Q
 on_some (Some x) p f = f x p
@@ -218,3 +222,10 @@ on_some None p f = tt
 pub on_none : {X P Q : Type 0} (r : Option X) → IfNone r P → (P → Q) → IfNone r Q
 on_none (Some x) p f = tt
 on_none None p f = f p
+
+-- a name gives what an entry gave, and then a directory moves there
+pub given_both : (m n r : Inodes) (d : ℕ) (name own new : List ℕ) (hides : Bool) (g : Option NameEntry) → name ≡ new → own ≡ new → n ≡ given_at m d name g → r ≡ moved_to n d own hides g → r ≡ given_to m d new hides g
+given_both m n r d name own new hides g is_name is_own given moved =
+    moved
+    ∙ ap (λ x. moved_to x d own hides g) (given ∙ ap (λ x. given_at m d x g) is_name)
+    ∙ ap (λ x. moved_to (given_at m d new g) d x hides g) is_own

@@ -115,8 +115,18 @@ abbrev pub dropped_at : Bool → Inodes → ℕ → List ℕ → Inodes
 dropped_at true m d n = put_at m d n White
 dropped_at false m d n = cleared_at m d n
 
+-- a name of a directory gives what an entry gave
+abbrev pub given_at : Inodes → ℕ → List ℕ → Option NameEntry → Inodes
+given_at m d n (Some (Ino i)) = put_at m d n (Ino i)
+given_at m d n (Some White) = m
+given_at m d n None = m
+
+-- the directory that an entry gives moves to a name of a directory
+abbrev pub moved_to : Inodes → ℕ → List ℕ → Bool → Option NameEntry → Inodes
+moved_to m d n hides (Some (Ino i)) = edited (with_content (placed d n hides)) m i
+moved_to m d n hides (Some White) = m
+moved_to m d n hides None = m
+
 -- a name of a directory gives what an entry gave; a directory moves there
 abbrev pub given_to : Inodes → ℕ → List ℕ → Bool → Option NameEntry → Inodes
-given_to m d n hides (Some (Ino i)) = edited (with_content (placed d n hides)) (put_at m d n (Ino i)) i
-given_to m d n hides (Some White) = m
-given_to m d n hides None = m
+given_to m d n hides g = moved_to (given_at m d n g) d n hides g

@@ -160,7 +160,8 @@ impl MemFs {
         let conceals = hides(opaque, target);
         nodes::let_go(&mut self.nodes, target);
         nodes::drop_name(&mut self.nodes, from, old, copy);
-        nodes::give(&mut self.nodes, to, name, own, conceals, given);
+        nodes::give(&mut self.nodes, to, name, given);
+        nodes::move_to(&mut self.nodes, to, own, conceals, given);
         Ok(())
     }
 

@@ -4,7 +4,7 @@ ghost use Rattle.std.specs.FinMap as map;
 ghost use Rattle.vfs_tree.specs.Nodes.{entry_in};
 ghost use Rattle.vfs_tree.specs.Visible.{names_in};
 ghost use Rattle.mem_fs.specs.Contents.{counted_in, made_ready, placed, written_in, cut_in, reserved_to};
-ghost use Rattle.mem_fs.specs.Inodes.{node_of, nodes_of, edited, with_content, links_of, name_count, gained, put_at, cleared_at, given_lost, given_gone, dropped_at, given_to};
+ghost use Rattle.mem_fs.specs.Inodes.{node_of, nodes_of, edited, with_content, links_of, name_count, gained, put_at, cleared_at, given_lost, given_gone, dropped_at, given_at, moved_to};
 ghost use Rattle.vfs_tree.specs.Counts.{above_zero};
 ghost use Rattle.mem_fs.specs.FileSystem.{seen, without};
 ghost use Rattle.mem_fs.specs.Invariant.{IsKept, IsLike};
@@ -42,10 +42,7 @@ fn reserve(alloc: Global, nodes: &mut NumberMap<Inode>, dir: u32) -> Result<(), 
     ensures err { OnErr result (nodes.new ≡ nodes.old) }
 {
     match nodes.get_mut(dir) {
-        Some(inode) => match inode.content.reserve(alloc) {
-            Ok(()) => Ok(()),
-            Err(error) => Err(error),
-        },
+        Some(inode) => inode.content.reserve(alloc),
         None => Ok(()),
     }
 }
@@ -155,18 +152,10 @@ fn place(nodes: &mut NumberMap<Inode>, ino: u32, to: u32, own: Name, hides: bool
     }
 }
 
-/// Lets a name of a directory give what an entry gave. A directory moves there.
-pub fn give(
-    nodes: &mut NumberMap<Inode>,
-    dir: u32,
-    name: Name,
-    own: Name,
-    hides: bool,
-    given: Option<NameEntry>,
-)
-    requires room { HasRoomAt name (map.get nodes.old dir) }
-    requires same { own ≡ name }
-    ensures { nodes.new ≡ given_to nodes.old dir name hides given }
+/// Lets a name of a directory give what an entry gave.
+pub fn give(nodes: &mut NumberMap<Inode>, dir: u32, name: Name, given: Option<NameEntry>)
+    requires { HasRoomAt name (map.get nodes.old dir) }
+    ensures { nodes.new ≡ given_at nodes.old dir name given }
 {
     let ino = match given {
         Some(NameEntry::Ino { ino }) => ino,
@@ -174,6 +163,23 @@ pub fn give(
         None => return,
     };
     put(nodes, dir, name, NameEntry::Ino { ino });
+}
+
+/// Moves what an entry gave, if it is a directory, to the name of another directory that gives it now.
+pub fn move_to(
+    nodes: &mut NumberMap<Inode>,
+    dir: u32,
+    own: Name,
+    hides: bool,
+    given: Option<NameEntry>,
+)
+    ensures { nodes.new ≡ moved_to nodes.old dir own hides given }
+{
+    let ino = match given {
+        Some(NameEntry::Ino { ino }) => ino,
+        Some(NameEntry::White) => return,
+        None => return,
+    };
     place(nodes, ino, dir, own, hides);
 }
 
@@ -209,10 +215,7 @@ pub fn reserve_to(
     ensures err { OnErr result (nodes.new ≡ nodes.old) }
 {
     match nodes.get_mut(ino) {
-        Some(inode) => match inode.content.reserve_to(alloc, len) {
-            Ok(()) => Ok(()),
-            Err(error) => Err(error),
-        },
+        Some(inode) => inode.content.reserve_to(alloc, len),
         None => Ok(()),
     }
 }
@@ -261,11 +264,7 @@ pub fn links(nodes: &NumberMap<Inode>, ino: u32) -> u64
 pub fn is_linked(nodes: &NumberMap<Inode>, ino: u32) -> bool
     ensures { result ≡ above_zero (links_of (map.get nodes.now ino)) }
 {
-    let links = links(nodes, ino);
-    if links == 0 {
-        return false;
-    }
-    true
+    0 < links(nodes, ino)
 }
 
 /// Whether a node is the root or some name gives it.

@@ -1,5 +1,8 @@
 use Rattle.mem_fs.proofs.Looks.{left_same}
+use Rattle.mem_fs.proofs.Calls.{on_err}
 use Rattle.mem_fs.proofs.nodes.reserve_to.Goals as goal
 
-pub returns-in-Err-clause-err : goal.returns-in-Err-clause-err
-returns-in-Err-clause-err c = left_same c.args.nodes.now _ _ _ _ c.in-Some.ensures.value (c.get_mut.follows.holds _) (λ i. record { links = c.in-Some.inode.now.links; content = c.in-Err.ensures.err i })
+pub returns-in-Some-clause-err : goal.returns-in-Some-clause-err
+returns-in-Some-clause-err c =
+    on_err c.reserve_to.result c.reserve_to.ensures.err
+    (λ e. left_same c.args.nodes.now _ _ _ _ c.in-Some.ensures.value (c.get_mut.follows.holds _) (λ i. record { links = c.in-Some.inode.now.links; content = e i }))

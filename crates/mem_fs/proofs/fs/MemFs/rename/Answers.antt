@@ -1,12 +1,11 @@
 use Rattle.std.proofs.Common.{◌≡◌, ap, sym, ◌∙◌}
 use Rattle.vfs_tree.specs.Nodes.{is_given}
-use Rattle.mem_fs.specs.Inodes.{given_to}
 use Rattle.mem_fs.specs.FileSystem.{seen}
 use Rattle.mem_fs.specs.Invariant.{IsKept}
 use Rattle.mem_fs.proofs.Seen.{kept-like, like_both, seen-renamed}
 use Rattle.mem_fs.proofs.Looks.{find_found}
 use Rattle.mem_fs.proofs.KeptLaws.{kept-renamed}
-use Rattle.mem_fs.proofs.Calls.{dir_of, bare_of, bare_store, room_copy, roomy_copy, room_new, even_err}
+use Rattle.mem_fs.proofs.Calls.{dir_of, bare_of, bare_store, room_copy, roomy_copy, room_new, given_both, even_err}
 use Rattle.mem_fs.proofs.fs.MemFs.rename.Goals as goal
 
 pub invariant_of-self : goal.invariant_of-self
@@ -29,8 +28,8 @@ drop_name-requires-clause-room c = room_copy c.in_ok-copy.copy c.make_room.new.n
 pub drop_name-requires-clause-same : goal.drop_name-requires-clause-same
 drop_name-requires-clause-same c = c.in_ok-copy.ensures.same
 
-pub give-requires-clause-room : goal.give-requires-clause-room
-give-requires-clause-room c =
+pub give-requires : goal.give-requires
+give-requires c =
     let n = c.make_room.new.nodes in
     let next = c.self.inside.next in
     let is : seen n next ≡ c.args.self.now = c.make_room.ensures.like.seen next ∙ c.whiteout.ensures.like.seen next ∙ c.self.view_is in
@@ -38,9 +37,6 @@ give-requires-clause-room c =
     (bare_store n next c.args.self.now c.args.to c.args.new.now c.entry_of-target.result is c.entry_of-target.ensures c.requires.bare)
     (ap is_given (find_found n next c.args.from c.args.old.now c.args.self.now is) ∙ c.requires.given)
     c.in_ok-make_room.ensures.room c.let_go.ensures c.drop_name.ensures
-
-pub give-requires-clause-same : goal.give-requires-clause-same
-give-requires-clause-same c = c.in_ok-own.ensures ∙ sym c.in_ok-name.ensures
 
 pub invariant_of-self-2 : goal.invariant_of-self-2
 invariant_of-self-2 c =
@@ -54,7 +50,7 @@ invariant_of-self-2 c =
     (λ same. c.requires.apart (sym (c.entry_of-target.ensures ∙ find_found n next c.args.to c.args.new.now v is) ∙ same ∙ c.entry_of-given.ensures ∙ find_found n next c.args.from c.args.old.now v is))
     (bare_of n next v c.args.to c.args.new.now c.entry_of-target.result is c.entry_of-target.ensures c.requires.bare)
     (dir_of n next v c.args.from is c.requires.from) (dir_of n next v c.args.to is c.requires.to)
-    c.let_go.ensures c.drop_name.ensures (c.give.ensures ∙ ap (λ x. given_to c.drop_name.new.nodes c.args.to x c.hides-conceals.result c.entry_of-given.result) c.in_ok-name.ensures)
+    c.let_go.ensures c.drop_name.ensures (given_both _ _ _ c.args.to _ _ c.args.new.now c.hides-conceals.result c.entry_of-given.result c.in_ok-name.ensures c.in_ok-own.ensures c.give.ensures c.move_to.ensures)
 
 pub returns-clause-renamed : goal.returns-clause-renamed
 returns-clause-renamed c =
@@ -62,4 +58,4 @@ returns-clause-renamed c =
     c.args.from c.args.old.now c.args.to c.args.new.now c.self.view_is
     (like_both c.self.inside.nodes c.whiteout.new.nodes c.make_room.new.nodes c.whiteout.ensures.like c.make_room.ensures.like)
     c.entry_of-given.ensures c.entry_of-target.ensures c.hides-conceals.ensures c.let_go.ensures c.drop_name.ensures
-    (c.give.ensures ∙ ap (λ x. given_to c.drop_name.new.nodes c.args.to x c.hides-conceals.result c.entry_of-given.result) c.in_ok-name.ensures) c.in_ok-copy.ensures.copy
+    (given_both _ _ _ c.args.to _ _ c.args.new.now c.hides-conceals.result c.entry_of-given.result c.in_ok-name.ensures c.in_ok-own.ensures c.give.ensures c.move_to.ensures) c.in_ok-copy.ensures.copy
