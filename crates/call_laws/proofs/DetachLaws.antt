@@ -28,7 +28,7 @@ use Rattle.call_laws.proofs.WholeLaws.{over_stays, dir_stays}
 
 -- ---- lists
 
-any_more : {A : Type 0} (p q : A → Bool) → ((a : A) → p a ≡ true → q a ≡ true) → (xs : List A) → list_any p xs ≡ true → list_any q xs ≡ true
+pub any_more : {A : Type 0} (p q : A → Bool) → ((a : A) → p a ≡ true → q a ≡ true) → (xs : List A) → list_any p xs ≡ true → list_any q xs ≡ true
 any_more p q f [] h = no_way h
 any_more p q f (x ∷ xs) h = by (p x) (q x) (f x) (any_more p q f xs) h
   where

@@ -358,58 +358,63 @@ alike_moved_file p hides t x file =
 pub alike_set : (t : Store) (u : ℕ) (n : List ℕ) (e : NameEntry) → AreAlike t (set_entry t u n e)
 alike_set t u n e = alike_names (λ names. insert names n e) t u
 
-module _ (t : Store) (white hides : Bool) (from : ℕ) (old : List ℕ) (to : ℕ) (n : List ℕ) (x : ℕ) (well : IsWell t) (at : entry_of t from old ≡ Some (Ino x)) (file : NoDir t x)
-    (linked_from : linked_by (dir_in t from) ≡ true) (linked_to : linked_by (dir_in t to) ≡ true) (target : (j : ℕ) → entry_of t to n ≡ Some (Ino j) → NoDir t j) where
-  abbrev one : Store
+-- a name that is moved, step by step: what it replaces is emptied, the old name is dropped, the new one set, and the node moved
+module _ (t : Store) (white hides : Bool) (from : ℕ) (old : List ℕ) (to : ℕ) (n : List ℕ) (x : ℕ) where
+  abbrev pub one : Store
   one = emptied t (entry_of t to n)
 
-  abbrev two : Store
+  abbrev pub two : Store
   two = drop_entry white one from old
 
-  abbrev three : Store
+  abbrev pub three : Store
   three = set_entry two to n (Ino x)
 
-  abbrev four : Store
+  abbrev pub four : Store
   four = with_node_at (moved to hides) three x
 
-  alike_three : AreAlike t three
-  alike_three = alike_through t two three (alike_through t one two (alike_emptied t (entry_of t to n)) (alike_drop white one from old)) (alike_set two to n (Ino x))
+  pub alike_two : AreAlike t two
+  alike_two = alike_through t one two (alike_emptied t (entry_of t to n)) (alike_drop white one from old)
+
+  pub alike_three : AreAlike t three
+  alike_three = alike_through t two three alike_two (alike_set two to n (Ino x))
 
   -- what stands at a name then, by cases
-  cases : (d : ℕ) (m : List ℕ) (P : Option NameEntry → Type 0) → (d ≡ to → m ≡ n → P (Some (Ino x))) → (d ≡ from → m ≡ old → P (Some White)) → (d ≡ from → m ≡ old → P None)
+  pub cases : (d : ℕ) (m : List ℕ) (P : Option NameEntry → Type 0) → (d ≡ to → m ≡ n → P (Some (Ino x))) → (d ≡ from → m ≡ old → P (Some White)) → (d ≡ from → m ≡ old → P None)
       → ((j : ℕ) → entry_of t to n ≡ Some (Ino j) → d ≡ j → P None) → P (entry_of t d m) → P (entry_of four d m)
   cases d m P a b c e f = subst P (sym (moved_entry to hides three x d m)) (set_case two to n (Ino x) d m P a (drop_case white one from old d m P b c (emptied_case t (entry_of t to n) d m P e f)))
 
-  abbrev Given : ℕ → List ℕ → ℕ → Type 0
-  Given d m i = (entry_of t d m ≡ Some (Ino i)) ⊎ (NoDir t i × IsSome (kind_at t i))
+  module _ (well : IsWell t) (at : entry_of t from old ≡ Some (Ino x)) (file : NoDir t x)
+      (linked_from : linked_by (dir_in t from) ≡ true) (linked_to : linked_by (dir_in t to) ≡ true) (target : (j : ℕ) → entry_of t to n ≡ Some (Ino j) → NoDir t j) where
+    abbrev Given : ℕ → List ℕ → ℕ → Type 0
+    Given d m i = (entry_of t d m ≡ Some (Ino i)) ⊎ (NoDir t i × IsSome (kind_at t i))
 
-  file_given : (d i : ℕ) (m : List ℕ) → entry_of four d m ≡ Some (Ino i) → Given d m i
-  file_given d i m =
-      cases d m (λ o. o ≡ Some (Ino i) → Given d m i) (λ _ _ e. inr (subst (λ y. NoDir t y × IsSome (kind_at t y)) (ap inode_of e) (file, well.names.given from x old at))) (λ _ _ e. white_ino e) (λ _ _ e. none_ino e)
-      (λ _ _ _ e. none_ino e) (λ e. inl e)
+    file_given : (d i : ℕ) (m : List ℕ) → entry_of four d m ≡ Some (Ino i) → Given d m i
+    file_given d i m =
+        cases d m (λ o. o ≡ Some (Ino i) → Given d m i) (λ _ _ e. inr (subst (λ y. NoDir t y × IsSome (kind_at t y)) (ap inode_of e) (file, well.names.given from x old at))) (λ _ _ e. white_ino e) (λ _ _ e. none_ino e)
+        (λ _ _ _ e. none_ino e) (λ e. inl e)
 
-  file_stays : (d i : ℕ) (m : List ℕ) → entry_of t d m ≡ Some (Ino i) → NoDir t i ⊎ (entry_of four d m ≡ Some (Ino i))
-  file_stays d i m e =
-      let moved_on : (o : Option NameEntry) → d ≡ from → m ≡ old → NoDir t i ⊎ (o ≡ Some (Ino i)) = λ o p q.
-      inl (subst (NoDir t) (ap inode_of (sym at ∙ sym (ap (λ y. entry_of t y old) p) ∙ sym (ap (entry_of t d) q) ∙ e)) file) in
-      cases d m (λ o. NoDir t i ⊎ (o ≡ Some (Ino i))) (λ p q. inl (target i (sym (ap (λ y. entry_of t y n) p) ∙ sym (ap (entry_of t d) q) ∙ e))) (moved_on (Some White)) (moved_on None)
-      (λ j is same. none_some (no_dir t d m (get t.nodes d) (subst (NoDir t) (sym same) (target j is))) e) (inr e)
+    file_stays : (d i : ℕ) (m : List ℕ) → entry_of t d m ≡ Some (Ino i) → NoDir t i ⊎ (entry_of four d m ≡ Some (Ino i))
+    file_stays d i m e =
+        let moved_on : (o : Option NameEntry) → d ≡ from → m ≡ old → NoDir t i ⊎ (o ≡ Some (Ino i)) = λ o p q.
+        inl (subst (NoDir t) (ap inode_of (sym at ∙ sym (ap (λ y. entry_of t y old) p) ∙ sym (ap (entry_of t d) q) ∙ e)) file) in
+        cases d m (λ o. NoDir t i ⊎ (o ≡ Some (Ino i))) (λ p q. inl (target i (sym (ap (λ y. entry_of t y n) p) ∙ sym (ap (entry_of t d) q) ∙ e))) (moved_on (Some White)) (moved_on None)
+        (λ j is same. none_some (no_dir t d m (get t.nodes d) (subst (NoDir t) (sym same) (target j is))) e) (inr e)
 
-  file_quiet : (d : ℕ) (m : List ℕ) → linked_by (dir_in t d) ≡ false → entry_of four d m ≡ None
-  file_quiet d m off =
-      cases d m (λ o. o ≡ None) (λ p _. no_way (sym off ∙ ap (λ y. linked_by (dir_in t y)) p ∙ linked_to)) (λ p _. no_way (sym off ∙ ap (λ y. linked_by (dir_in t y)) p ∙ linked_from)) (λ _ _. refl)
-      (λ _ _ _. refl) (well.names.removed d m off)
+    file_quiet : (d : ℕ) (m : List ℕ) → linked_by (dir_in t d) ≡ false → entry_of four d m ≡ None
+    file_quiet d m off =
+        cases d m (λ o. o ≡ None) (λ p _. no_way (sym off ∙ ap (λ y. linked_by (dir_in t y)) p ∙ linked_to)) (λ p _. no_way (sym off ∙ ap (λ y. linked_by (dir_in t y)) p ∙ linked_from)) (λ _ _. refl)
+        (λ _ _ _. refl) (well.names.removed d m off)
 
-  four_alike : AreAlike t four
-  four_alike = alike_through t three four alike_three (alike_moved_file to hides three x (λ dir. file (sym (alike_three.kinds x) ∙ dir)))
+    four_alike : AreAlike t four
+    four_alike = alike_through t three four alike_three (alike_moved_file to hides three x (λ dir. file (sym (alike_three.kinds x) ∙ dir)))
 
-  pub file_kept : IsKept t four
-  file_kept =
-      dropped_kept t four four_alike well (NoDir t) file_given file_stays file_quiet
-      (λ d m file. no_dir four d m (get four.nodes d) (λ dir. file (sym (four_alike.kinds d) ∙ dir)))
+    pub file_kept : IsKept t four
+    file_kept =
+        dropped_kept t four four_alike well (NoDir t) file_given file_stays file_quiet
+        (λ d m file. no_dir four d m (get four.nodes d) (λ dir. file (sym (four_alike.kinds d) ∙ dir)))
 
-  -- a file is moved to a name of a linked directory
-  pub renamed_file : (opaque : Bool) → hides ≡ (opaque || is_white (entry_of t to n)) → IsKept t (renamed white opaque t from old to n)
-  renamed_file opaque is =
-      subst (λ o. IsKept t (renamed_to two to n (opaque || is_white (entry_of t to n)) o)) (sym at)
-      (subst (λ b. IsKept t (with_node_at (moved to b) three x)) is file_kept)
+    -- a file is moved to a name of a linked directory
+    pub renamed_file : (opaque : Bool) → hides ≡ (opaque || is_white (entry_of t to n)) → IsKept t (renamed white opaque t from old to n)
+    renamed_file opaque is =
+        subst (λ o. IsKept t (renamed_to two to n (opaque || is_white (entry_of t to n)) o)) (sym at)
+        (subst (λ b. IsKept t (with_node_at (moved to b) three x)) is file_kept)

@@ -1,9 +1,9 @@
 -- Places that walks come by are sound.
-use Rattle.std.proofs.Common.{◌≡◌, ℕ, zero, suc, ◌<◌, Bool, true, false, cond, not, ◌&&◌, ◌||◌, ◌==◌, List, refl, ap, sym, ◌∙◌, subst}
+use Rattle.std.proofs.Common.{◌≡◌, ℕ, zero, suc, ◌<◌, Bool, true, false, cond, not, ◌&&◌, ◌==◌, List, refl, ap, sym, ◌∙◌, subst}
 use Rattle.std.specs.Prelude.{Option, Some, None, IsSome, IfSome, is_some, option_map, option_and_then}
-use Rattle.vfs_tree.specs.Child.{Lookup, child_mem, child_null, child_below, child_low, child_union, only_dir, below_named, low_case, low_within, low_by, upper_entry, child_within, child_of, steps}
+use Rattle.vfs_tree.specs.Child.{Lookup, child_mem, child_null, child_below, child_low, child_union, low_within, low_by, upper_entry, child_within, child_of, steps}
 use Rattle.vfs_tree.specs.Facts.{Facts}
-use Rattle.vfs_tree.specs.Layers.{kind_in, store_by, is_dir, is_linked, is_opaque, is_root, is_cut, parent_ino, parent_by, parent_in, parent_unless, root_by, root_of, on_of, cut_by}
+use Rattle.vfs_tree.specs.Layers.{kind_in, store_by, is_dir, is_linked, is_root, is_cut, parent_ino, parent_by, parent_in, parent_unless, root_by, root_of, on_of, cut_by}
 use Rattle.vfs_tree.specs.Place.{Seen, Mem, Null, UnionUp, UnionLow, mount_of}
 use Rattle.vfs_tree.specs.Sound.{is_mem, is_null, is_union, names_mounts, AreFiles, IsSoundPlace, EachLayer, EachPlace, IsSoundView}
 use Rattle.vfs_tree.specs.Walk.{leave_case, leave_within, leave, above}
@@ -15,10 +15,12 @@ use Rattle.vfs_tree.specs.declared.node.NameEntry.TheVariants.{Ino, White}
 use Rattle.vfs_tree.specs.declared.view.DirFacts.{DirFacts}
 use Rattle.vfs_tree.specs.declared.walk.Child.{Child}
 use Rattle.vfs_tree.specs.declared.walk.Child.TheVariants as child
+use Rattle.vfs_tree.specs.declared.walk.Need.{Need}
 use Rattle.call_laws.specs.Lasting.{lower_mount, IsOver, IsUncut}
 use Rattle.call_laws.specs.Needing.{IsFree}
+use Rattle.call_laws.proofs.ChildInduction.{ChildComes, Lies, ChildKeeps, has_free, in-child}
 use Rattle.call_laws.proofs.NamedLaws.{no_way}
-use Rattle.call_laws.proofs.SoundParts.{first_of, second_of, both_of, kind_or, number_or}
+use Rattle.call_laws.proofs.SoundParts.{first_of, second_of, both_of, kind_or}
 
 -- ---- what the lower layer alone has
 
@@ -131,6 +133,10 @@ head_uncut f (Null m p) h = h.0
 head_uncut f (UnionUp m i) h = h
 head_uncut f (UnionLow m u n p) h = h.0
 
+-- a shadow directory in a union that isn't cut
+abbrev pub UncutNeed : Facts → Need → Type 0
+UncutNeed f x = is_cut f x.mount ≡ false
+
 -- what is to be known of a view
 pub record IsGoodView (f : Facts) : Type 0 where
   pub sound : IsSoundView f
@@ -156,12 +162,6 @@ covered_by f None h cut p is = absurd (let clash : None ≡ Some p = is in cc)
 pub there_kind : (o : Option Mount) → IsSome o → IsSome (option_map (λ (t : Mount). t.kind) o)
 there_kind (Some t) h = refl
 there_kind None h = no_way h
-
-pub union_lower : (k : Option MountKind) → is_union k ≡ true → lower_mount k ≡ Some (number_or (lower_mount k))
-union_lower (Some kind.Mem) h = no_way h
-union_lower (Some (kind.Null layer)) h = no_way h
-union_lower (Some (kind.Union s u lower)) h = refl
-union_lower None h = no_way h
 
 unless_mount : (b : Bool) (d up : Seen) → mount_of up ≡ mount_of d → mount_of (parent_unless b d up) ≡ mount_of d
 unless_mount true d up e = refl
@@ -194,101 +194,22 @@ module _ (f : Facts) (view : IsGoodView f) where
 
   -- ---- children, which lie in the mount of their directory
 
+  pub good_keeps : ChildKeeps f (UncutNeed f) (IsGood f)
+  good_keeps = record {
+    mem = λ m i j n h at. good_mem f m j h.sound.mounts h.uncut ((view.sound.names m).given i j n at);
+    under = λ m p h. under_null f m p h;
+    over = λ m p q h same g. good_null f m q (first_of (is_null (kind_in f m)) (names_mounts f p) h.sound.mounts) h.uncut.0 (h.over.0 ∙ ap Some (sym same)) g;
+    lower = λ m u s top lower h is. (good_layers m (kind.Union s top lower) is h.uncut).1;
+    upper = λ m u i s top lower n h is at. good_up f m i (ap is_union is) h.uncut (ap (λ k. is_some (f.kind (store_by k) i)) is ∙ (view.sound.names s).given u i n at);
+    alone = λ k m u n q h has g plain. good_low f m u n q h.sound.mounts h.uncut (ap lower_mount has.union ∙ ap Some (sym has.inside)) plain (has_free has) g;
+    need = λ k m u n q h has g dir. h.uncut;
+  }
+
   abbrev pub GoodChild : ℕ → Child → Type 0
-  GoodChild l (child.At p) = IsGood f p × (mount_of p ≡ l)
-  GoodChild l child.Absent = Unit {0}
-  GoodChild l (child.Need x) = Unit {0}
-
-  abbrev GoodLook : Lookup → Type 0
-  GoodLook look = (d : Seen) (n : List ℕ) → IsGood f d → GoodChild (mount_of d) (look d n)
-
-  good-null : (m l : ℕ) (a : Child) → is_null (kind_in f m) ≡ true → is_cut f m ≡ false → lower_mount (kind_in f m) ≡ Some l → GoodChild l a → GoodChild m (child_null m a)
-  good-null m l (child.At p) is cut over h = (good_null f m p is cut (over ∙ ap Some (sym h.1)) h.0, refl)
-  good-null m l child.Absent is cut over h = tt
-  good-null m l (child.Need x) is cut over h = tt
-
-  good-mem : (m i : ℕ) (n : List ℕ) (e : Option NameEntry) → f.entry m i n ≡ e → is_mem (kind_in f m) ≡ true → is_cut f m ≡ false → GoodChild m (child_mem m e)
-  good-mem m i n (Some (Ino j)) at is cut = (good_mem f m j is cut ((view.sound.names m).given i j n at), refl)
-  good-mem m i n (Some White) at is cut = tt
-  good-mem m i n None at is cut = tt
-
-  good-below : (look : Lookup) → GoodLook look → (l : ℕ) (a : Child) → GoodChild l a → (n : List ℕ) → GoodChild l (child_below look a n)
-  good-below look g l (child.At d) h n = subst (λ x. GoodChild x (look d n)) h.1 (g d n h.0)
-  good-below look g l child.Absent h n = tt
-  good-below look g l (child.Need x) h n = tt
-
-  good-if : (l : ℕ) (b : Bool) (x y : Child) → GoodChild l x → GoodChild l y → GoodChild l (cond b x y)
-  good-if l true x y p q = p
-  good-if l false x y p q = q
-
-  good-only_dir : (l : ℕ) (a : Child) → GoodChild l a → GoodChild l (only_dir f a)
-  good-only_dir l (child.At q) h = good-if l (is_dir f q) (child.At q) child.Absent h tt
-  good-only_dir l child.Absent h = tt
-  good-only_dir l (child.Need x) h = tt
-
-  good-named : (look : Lookup) → GoodLook look → (l : ℕ) (a : Child) → GoodChild l a → (o : Option (List ℕ)) → GoodChild l (below_named look a o)
-  good-named look g l a h (Some n) = good-below look g l a h n
-  good-named look g l a h None = tt
-
-  good-low_case : (look : Lookup) → GoodLook look → (s : ℕ) (lower : Seen) → IsGood f lower → (up : ℕ → Child) → ((u : ℕ) → GoodChild (mount_of lower) (up u)) → (u : ℕ) (top ends : Bool)
-      → GoodChild (mount_of lower) (low_case f look s lower up u top ends)
-  good-low_case look g s lower l up h u true ends = (l, refl)
-  good-low_case look g s lower l up h u false true = tt
-  good-low_case look g s lower l up h u false false =
-      let p = parent_ino f s u in
-      good-only_dir (mount_of lower) (below_named look (up p) (f.name_of s u)) (good-named look g (mount_of lower) (up p) (h p) (f.name_of s u))
-
-  good-low_within : (k : ℕ) (look : Lookup) → GoodLook look → (s upper : ℕ) (lower : Seen) → IsGood f lower → (u : ℕ) → GoodChild (mount_of lower) (low_within k f look s upper lower u)
-  good-low_within zero look g s upper lower l u = tt
-  good-low_within (suc k) look g s upper lower l u =
-      good-low_case look g s lower l (low_within k f look s upper lower) (good-low_within k look g s upper lower l) u (u == upper) (is_opaque f s u || (u == 1))
-
-  good-low_by : (look : Lookup) → GoodLook look → (m u l : ℕ) (k : Option MountKind) → kind_in f m ≡ k → is_cut f m ≡ false → lower_mount k ≡ Some l → GoodChild l (low_by f look u k)
-  good-low_by look g m u l (Some (kind.Union s upper lower)) is cut e =
-      subst (λ x. GoodChild x (low_by f look u (Some (kind.Union s upper lower)))) (ap number_or e)
-      (good-if (mount_of lower) (is_linked f s u) (low_within steps f look s upper lower u) child.Absent
-      (good-low_within steps look g s upper lower (good_layers m (kind.Union s upper lower) is cut).1 u) tt)
-  good-low_by look g m u l (Some kind.Mem) is cut e = tt
-  good-low_by look g m u l (Some (kind.Null layer)) is cut e = tt
-  good-low_by look g m u l None is cut e = tt
-
-  good-lower : (m u l : ℕ) (n : List ℕ) (a : Child) → is_union (kind_in f m) ≡ true → is_cut f m ≡ false → lower_mount (kind_in f m) ≡ Some l → GoodChild l a → ReadyChild f (child_low f m u n a)
-      → GoodChild m (child_low f m u n a)
-  good-lower m u l n (child.At q) is cut over h ready = by (is_dir f q) refl ready
-    where
-      by : (b : Bool) → is_dir f q ≡ b → ReadyChild f (cond b (child.Need (record { mount = m; dir = u; name = n })) (child.At (UnionLow m u n q)))
-          → GoodChild m (cond b (child.Need (record { mount = m; dir = u; name = n })) (child.At (UnionLow m u n q)))
-      by true e r = tt
-      by false e r = (good_low f m u n q is cut (over ∙ ap Some (sym h.1)) e r h.0, refl)
-  good-lower m u l n child.Absent is cut over h ready = tt
-  good-lower m u l n (child.Need x) is cut over h ready = tt
-
-  good-entry : (m u l : ℕ) (n : List ℕ) (k : Option MountKind) → kind_in f m ≡ k → (e : Option NameEntry) → upper_entry f k u n ≡ e → is_union (kind_in f m) ≡ true → is_cut f m ≡ false
-      → lower_mount (kind_in f m) ≡ Some l → (below : List ℕ → Child) → GoodChild l (below n) → ReadyChild f (child_union f m u n e below) → GoodChild m (child_union f m u n e below)
-  good-entry m u l n (Some (kind.Union s upper lower)) same (Some (Ino i)) at is cut over below h ready =
-      (good_up f m i is cut (ap (λ k. is_some (f.kind (store_by k) i)) same ∙ (view.sound.names s).given u i n at), refl)
-  good-entry m u l n (Some kind.Mem) same (Some (Ino i)) at is cut over below h ready = absurd (let clash : None ≡ Some (Ino i) = at in cc)
-  good-entry m u l n (Some (kind.Null layer)) same (Some (Ino i)) at is cut over below h ready = absurd (let clash : None ≡ Some (Ino i) = at in cc)
-  good-entry m u l n None same (Some (Ino i)) at is cut over below h ready = absurd (let clash : None ≡ Some (Ino i) = at in cc)
-  good-entry m u l n k same (Some White) at is cut over below h ready = tt
-  good-entry m u l n k same None at is cut over below h ready = good-lower m u l n (below n) is cut over h ready
-
-  good-within : (k : ℕ) → GoodLook (child_within k f)
-  good-within zero d n h = tt
-  good-within (suc k) (Mem m i) n h = good-mem m i n (f.entry m i n) refl h.sound.mounts h.uncut
-  good-within (suc k) (Null m p) n h =
-      good-null m (mount_of p) (child_within k f p n) (first_of (is_null (kind_in f m)) (names_mounts f p) h.sound.mounts) h.uncut.0 h.over.0 (good-within k p n (under_null f m p h))
-  good-within (suc k) (UnionUp m u) n h =
-      let look = child_within k f in
-      let l = number_or (lower_mount (kind_in f m)) in
-      let over : lower_mount (kind_in f m) ≡ Some l = union_lower (kind_in f m) h.sound.mounts in
-      good-entry m u l n (kind_in f m) refl (upper_entry f (kind_in f m) u n) refl h.sound.mounts h.uncut over (child_below look (low_by f look u (kind_in f m)))
-      (good-below look (good-within k) l (low_by f look u (kind_in f m)) (good-low_by look (good-within k) m u l (kind_in f m) refl h.uncut over) n)
-      (ready-union f look m u n (kind_in f m) refl)
-  good-within (suc k) (UnionLow m u a p) n h = tt
+  GoodChild l c = ChildComes (UncutNeed f) (Lies (IsGood f) l) c
 
   pub good-child : (d : Seen) (n : List ℕ) → IsGood f d → GoodChild (mount_of d) (child_of f d n)
-  good-child d n h = good-within (suc (mount_of d)) d n h
+  good-child d n h = in-child f (UncutNeed f) (IsGood f) good_keeps d n h
 
   -- ---- up
 

@@ -22,6 +22,8 @@ pub mod NamedLaws
 pub mod MadeLaws
 pub mod SoundMade
 pub mod SoundRows
+pub mod ChildInduction
+pub mod WalkInduction
 pub mod NeedLaws
 pub mod FoundLaws
 pub mod WalkLaws
@@ -31,6 +33,7 @@ pub mod BytesLaws
 pub mod WholeLaws
 pub mod DetachLaws
 pub mod DropLaws
+pub mod WayLaws
 pub mod ClimbLaws
 pub mod MoveLaws
 pub mod GivenLaws

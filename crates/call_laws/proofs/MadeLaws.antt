@@ -35,7 +35,7 @@ IsFresh u (Link target) = Unit {0}
 pub none_some : {A X : Type 0} {x : X} {o : Option X} → o ≡ None → o ≡ Some x → A
 none_some {x = x} p q = absurd (let clash : None ≡ Some x = sym p ∙ q in cc)
 
-fresh_names : (u : ℕ) (node : Node) → IsFresh u node → (m : List ℕ) → entry_in m (Some node) ≡ None
+pub fresh_names : (u : ℕ) (node : Node) → IsFresh u node → (m : List ℕ) → entry_in m (Some node) ≡ None
 fresh_names u (Dir parent opaque names) h m = ap (λ (x : Names). get x m) h.1 ∙ get-empty {X = NameEntry} name_cmp m
 fresh_names u (File bytes) h m = refl
 fresh_names u (Link target) h m = refl
@@ -103,7 +103,7 @@ abbrev pub name_or : Option (List ℕ) → List ℕ
 name_or (Some n) = n
 name_or None = []
 
-no_node : (o : Option Node) (i : ℕ) → (IsSome o → i < i) → o ≡ None
+pub no_node : (o : Option Node) (i : ℕ) → (IsSome o → i < i) → o ≡ None
 no_node None i h = refl
 no_node (Some x) i h = absurd (let less = h refl in omega (arith, less))
 
@@ -115,15 +115,14 @@ abbrev pub kind_at : Store → ℕ → Option Kind
 kind_at t i = option_map kind_of_node (get t.nodes i)
 
 module _ (t : Store) (u : ℕ) (n : List ℕ) (node : Node) (parent : ℕ) (opaque : Bool) (names : Names)
-    (below : AreBelow t.nodes t.next) (at : get t.nodes u ≡ Some (Dir parent opaque names)) (linked : is_linked_in t u ≡ true)
-    (free : is_given (get names n) ≡ false) (fresh : IsFresh u node) (sound : StoreNames t) where
+    (below : AreBelow t.nodes t.next) (at : get t.nodes u ≡ Some (Dir parent opaque names)) where
   abbrev new : Store
   new = made t u n node
 
   abbrev over : Node
   over = Dir parent opaque (insert names n (Ino t.next))
 
-  unused : get t.nodes t.next ≡ None
+  pub unused : get t.nodes t.next ≡ None
   unused = no_node (get t.nodes t.next) t.next (below t.next)
 
   apart : u ≡ t.next → ⊥
@@ -135,7 +134,7 @@ module _ (t : Store) (u : ℕ) (n : List ℕ) (node : Node) (parent : ℕ) (opaq
   nodes : new.nodes ≡ insert (insert t.nodes t.next node) u over
   nodes = ap (with_node (with_names (λ names. insert names n (Ino t.next))) (insert t.nodes t.next node) u) still
 
-  node_case : (d : ℕ) (P : Option Node → Type 0) → (d ≡ u → P (Some over)) → (d ≡ t.next → P (Some node)) → P (get t.nodes d) → P (get new.nodes d)
+  pub node_case : (d : ℕ) (P : Option Node → Type 0) → (d ≡ u → P (Some over)) → (d ≡ t.next → P (Some node)) → P (get t.nodes d) → P (get new.nodes d)
   node_case d P here there else =
       subst (λ (m : FinMap nat_cmp Node). P (get m d)) (sym nodes)
       (by_key nat_cmp_total exact_unsigned (insert t.nodes t.next node) u over d P here (by_key nat_cmp_total exact_unsigned t.nodes t.next node d P there else))
@@ -145,184 +144,185 @@ module _ (t : Store) (u : ℕ) (n : List ℕ) (node : Node) (parent : ℕ) (opaq
       ap (λ (m : FinMap nat_cmp Node). get m t.next) nodes
       ∙ by_key nat_cmp_total exact_unsigned (insert t.nodes t.next node) u over t.next (λ o. o ≡ Some node) (λ e. absurd (apart (sym e))) (get_at-insert nat_cmp_total t.nodes t.next node)
 
-  entry_new : entry_of new u n ≡ Some (Ino t.next)
+  pub entry_new : entry_of new u n ≡ Some (Ino t.next)
   entry_new =
       ap (λ (m : FinMap nat_cmp Node). entry_in n (get m u)) nodes ∙ ap (entry_in n) (get_at-insert nat_cmp_total (insert t.nodes t.next node) u over)
       ∙ get_at-insert nat_list_cmp_total names n (Ino t.next)
 
-  -- ---- what stands at a name
+  module _ (linked : is_linked_in t u ≡ true) (free : is_given (get names n) ≡ false) (fresh : IsFresh u node) (sound : StoreNames t) where
+    -- ---- what stands at a name
 
-  entry_stays : (d : ℕ) (m : List ℕ) (j : ℕ) → entry_of t d m ≡ Some (Ino j) → entry_of new d m ≡ Some (Ino j)
-  entry_stays d m j e =
-      node_case d (λ o. entry_in m o ≡ Some (Ino j))
-      (λ same. let own : get names m ≡ Some (Ino j) = sym (ap (entry_in m) (ap (get t.nodes) same ∙ at)) ∙ e in
-      by_key nat_list_cmp_total exact_bytes names n (Ino t.next) m (λ o. o ≡ Some (Ino j)) (λ is. no_way (sym free ∙ ap is_given (sym (ap (get names) is) ∙ own))) own)
-      (λ same. none_some (ap (entry_in m) (ap (get t.nodes) same ∙ unused)) e)
-      e
+    entry_stays : (d : ℕ) (m : List ℕ) (j : ℕ) → entry_of t d m ≡ Some (Ino j) → entry_of new d m ≡ Some (Ino j)
+    entry_stays d m j e =
+        node_case d (λ o. entry_in m o ≡ Some (Ino j))
+        (λ same. let own : get names m ≡ Some (Ino j) = sym (ap (entry_in m) (ap (get t.nodes) same ∙ at)) ∙ e in
+        by_key nat_list_cmp_total exact_bytes names n (Ino t.next) m (λ o. o ≡ Some (Ino j)) (λ is. no_way (sym free ∙ ap is_given (sym (ap (get names) is) ∙ own))) own)
+        (λ same. none_some (ap (entry_in m) (ap (get t.nodes) same ∙ unused)) e)
+        e
 
-  abbrev IsNew : ℕ → List ℕ → ℕ → Type 0
-  IsNew d m j = (d ≡ u) × (m ≡ n) × (j ≡ t.next)
+    abbrev IsNew : ℕ → List ℕ → ℕ → Type 0
+    IsNew d m j = (d ≡ u) × (m ≡ n) × (j ≡ t.next)
 
-  entry_back : (d : ℕ) (m : List ℕ) (j : ℕ) → entry_of new d m ≡ Some (Ino j) → IsNew d m j ⊎ (entry_of t d m ≡ Some (Ino j))
-  entry_back d m j =
-      node_case d (λ o. entry_in m o ≡ Some (Ino j) → IsNew d m j ⊎ (entry_of t d m ≡ Some (Ino j)))
-      (λ same. by_key nat_list_cmp_total exact_bytes names n (Ino t.next) m (λ o. o ≡ Some (Ino j) → IsNew d m j ⊎ (entry_of t d m ≡ Some (Ino j)))
-      (λ is e. inl (same, is, sym (ap inode_of e)))
-      (λ e. inr (ap (entry_in m) (ap (get t.nodes) same ∙ at) ∙ e)))
-      (λ same e. none_some (fresh_names u node fresh m) e)
-      (λ e. inr e)
+    entry_back : (d : ℕ) (m : List ℕ) (j : ℕ) → entry_of new d m ≡ Some (Ino j) → IsNew d m j ⊎ (entry_of t d m ≡ Some (Ino j))
+    entry_back d m j =
+        node_case d (λ o. entry_in m o ≡ Some (Ino j) → IsNew d m j ⊎ (entry_of t d m ≡ Some (Ino j)))
+        (λ same. by_key nat_list_cmp_total exact_bytes names n (Ino t.next) m (λ o. o ≡ Some (Ino j) → IsNew d m j ⊎ (entry_of t d m ≡ Some (Ino j)))
+        (λ is e. inl (same, is, sym (ap inode_of e)))
+        (λ e. inr (ap (entry_in m) (ap (get t.nodes) same ∙ at) ∙ e)))
+        (λ same e. none_some (fresh_names u node fresh m) e)
+        (λ e. inr e)
 
-  -- ---- kinds
+    -- ---- kinds
 
-  pub kind_stays : (i : ℕ) (k : Kind) → kind_at t i ≡ Some k → kind_at new i ≡ Some k
-  kind_stays i k e =
-      node_case i (λ o. option_map kind_of_node o ≡ Some k)
-      (λ same. sym (ap (option_map kind_of_node) (ap (get t.nodes) same ∙ at)) ∙ e)
-      (λ same. none_some (ap (option_map kind_of_node) (ap (get t.nodes) same ∙ unused)) e)
-      e
+    pub kind_stays : (i : ℕ) (k : Kind) → kind_at t i ≡ Some k → kind_at new i ≡ Some k
+    kind_stays i k e =
+        node_case i (λ o. option_map kind_of_node o ≡ Some k)
+        (λ same. sym (ap (option_map kind_of_node) (ap (get t.nodes) same ∙ at)) ∙ e)
+        (λ same. none_some (ap (option_map kind_of_node) (ap (get t.nodes) same ∙ unused)) e)
+        e
 
-  kind_back : (i : ℕ) (k : Kind) → kind_at new i ≡ Some k → (i ≡ t.next) ⊎ (kind_at t i ≡ Some k)
-  kind_back i k =
-      node_case i (λ o. option_map kind_of_node o ≡ Some k → (i ≡ t.next) ⊎ (kind_at t i ≡ Some k))
-      (λ same e. inr (ap (option_map kind_of_node) (ap (get t.nodes) same ∙ at) ∙ e))
-      (λ same e. inl same)
-      (λ e. inr e)
+    kind_back : (i : ℕ) (k : Kind) → kind_at new i ≡ Some k → (i ≡ t.next) ⊎ (kind_at t i ≡ Some k)
+    kind_back i k =
+        node_case i (λ o. option_map kind_of_node o ≡ Some k → (i ≡ t.next) ⊎ (kind_at t i ≡ Some k))
+        (λ same e. inr (ap (option_map kind_of_node) (ap (get t.nodes) same ∙ at) ∙ e))
+        (λ same e. inl same)
+        (λ e. inr e)
 
-  -- no name of the old store gives the new node
-  dangling : {A : Type 0} (d j : ℕ) (m : List ℕ) → entry_of t d m ≡ Some (Ino j) → j ≡ t.next → A
-  dangling d j m e is = no_way (sym (ap (λ o. is_some (option_map kind_of_node o)) (ap (get t.nodes) is ∙ unused)) ∙ sound.given d j m e)
+    -- no name of the old store gives the new node
+    dangling : {A : Type 0} (d j : ℕ) (m : List ℕ) → entry_of t d m ≡ Some (Ino j) → j ≡ t.next → A
+    dangling d j m e is = no_way (sym (ap (λ o. is_some (option_map kind_of_node o)) (ap (get t.nodes) is ∙ unused)) ∙ sound.given d j m e)
 
-  -- ---- links and parents
+    -- ---- links and parents
 
-  linked_stays : (i : ℕ) → is_linked_in t i ≡ true → is_linked_in new i ≡ true
-  linked_stays i h = elim (linked_way t i h) [
-    | inl root ↦ linked_root new i root
-    | inr named ↦ let x = named_from t i named in linked_named new i (named_to new i x.dir x.name (entry_stays x.dir x.name i x.entry))
-  ]
-
-  linked_back : (i : ℕ) → is_linked_in new i ≡ true → (i ≡ t.next) ⊎ (is_linked_in t i ≡ true)
-  linked_back i h = elim (linked_way new i h) [
-    | inl root ↦ inr (linked_root t i root)
-    | inr named ↦ let x = named_from new i named in elim (entry_back x.dir x.name i x.entry) as (λ _. (i ≡ t.next) ⊎ (is_linked_in t i ≡ true)) [
-      | inl e ↦ inl e.2
-      | inr e ↦ inr (linked_named t i (named_to t i x.dir x.name e))
+    linked_stays : (i : ℕ) → is_linked_in t i ≡ true → is_linked_in new i ≡ true
+    linked_stays i h = elim (linked_way t i h) [
+      | inl root ↦ linked_root new i root
+      | inr named ↦ let x = named_from t i named in linked_named new i (named_to new i x.dir x.name (entry_stays x.dir x.name i x.entry))
     ]
-  ]
 
-  parent_stays : (d : ℕ) → (parent_by d (dir_in new d) ≡ parent_by d (dir_in t d)) ⊎ (d ≡ t.next)
-  parent_stays d =
-      node_case d (λ o. (parent_by d (option_and_then (facts_in new d) o) ≡ parent_by d (dir_in t d)) ⊎ (d ≡ t.next))
-      (λ same. inl (sym (ap (λ o. parent_by d (option_and_then (facts_in t d) o)) (ap (get t.nodes) same ∙ at))))
-      (λ same. inr same)
-      (inl (same_parent new t d (get t.nodes d)))
-
-  -- the new directory lies in the one whose name gives it
-  parent_new : (i : ℕ) → i ≡ t.next → kind_at new i ≡ Some kind.Dir → parent_by i (dir_in new i) ≡ u
-  parent_new i is dir =
-      let here : get new.nodes i ≡ Some node = ap (get new.nodes) is ∙ node_new in
-      ap (λ o. parent_by i (option_and_then (facts_in new i) o)) here ∙ new_parent new i u node fresh (sym (ap (option_map kind_of_node) here) ∙ dir)
-
-  climbs : (k d : ℕ) → climb k (dir_in t) d ≡ 1 → LeadsUp (dir_in new) d
-  climbs zero d e = record { steps = 0; root = e }
-  climbs (suc k) d e =
-      let up = climbs k (parent_by d (dir_in t d)) e in
-      elim (parent_stays d) as (λ _. LeadsUp (dir_in new) d) [
-        | inl same ↦ record { steps = suc up.steps; root = ap (climb up.steps (dir_in new)) same ∙ up.root }
-        | inr is ↦ subst (LeadsUp (dir_in new)) (ap (λ o. parent_by d (option_and_then (facts_in t d) o)) (ap (get t.nodes) is ∙ unused)) up
+    linked_back : (i : ℕ) → is_linked_in new i ≡ true → (i ≡ t.next) ⊎ (is_linked_in t i ≡ true)
+    linked_back i h = elim (linked_way new i h) [
+      | inl root ↦ inr (linked_root t i root)
+      | inr named ↦ let x = named_from new i named in elim (entry_back x.dir x.name i x.entry) as (λ _. (i ≡ t.next) ⊎ (is_linked_in t i ≡ true)) [
+        | inl e ↦ inl e.2
+        | inr e ↦ inr (linked_named t i (named_to t i x.dir x.name e))
       ]
+    ]
 
-  led : (i : ℕ) → kind_at t i ≡ Some kind.Dir → is_linked_in t i ≡ true → LeadsUp (dir_in new) i
-  led i dir h = let up = sound.lead i (is_linked t i (get t.nodes i) dir h) in climbs up.steps i up.root
+    parent_stays : (d : ℕ) → (parent_by d (dir_in new d) ≡ parent_by d (dir_in t d)) ⊎ (d ≡ t.next)
+    parent_stays d =
+        node_case d (λ o. (parent_by d (option_and_then (facts_in new d) o) ≡ parent_by d (dir_in t d)) ⊎ (d ≡ t.next))
+        (λ same. inl (sym (ap (λ o. parent_by d (option_and_then (facts_in t d) o)) (ap (get t.nodes) same ∙ at))))
+        (λ same. inr same)
+        (inl (same_parent new t d (get t.nodes d)))
 
-  lead : (i : ℕ) → linked_by (dir_in new i) ≡ true → LeadsUp (dir_in new) i
-  lead i h =
-      let dir = linked_dir new i (get new.nodes i) h in
-      elim (kind_back i kind.Dir dir) as (λ _. LeadsUp (dir_in new) i) [
-        | inl is ↦ let up = led u (ap (option_map kind_of_node) at) linked in
-            record { steps = suc up.steps; root = ap (climb up.steps (dir_in new)) (parent_new i is dir) ∙ up.root }
-        | inr old ↦ elim (linked_back i (linked_is new i (get new.nodes i) h)) as (λ _. LeadsUp (dir_in new) i) [
-          | inl is ↦ none_some (ap (option_map kind_of_node) (ap (get t.nodes) is ∙ unused)) old
-          | inr l ↦ led i old l
+    -- the new directory lies in the one whose name gives it
+    parent_new : (i : ℕ) → i ≡ t.next → kind_at new i ≡ Some kind.Dir → parent_by i (dir_in new i) ≡ u
+    parent_new i is dir =
+        let here : get new.nodes i ≡ Some node = ap (get new.nodes) is ∙ node_new in
+        ap (λ o. parent_by i (option_and_then (facts_in new i) o)) here ∙ new_parent new i u node fresh (sym (ap (option_map kind_of_node) here) ∙ dir)
+
+    climbs : (k d : ℕ) → climb k (dir_in t) d ≡ 1 → LeadsUp (dir_in new) d
+    climbs zero d e = record { steps = 0; root = e }
+    climbs (suc k) d e =
+        let up = climbs k (parent_by d (dir_in t d)) e in
+        elim (parent_stays d) as (λ _. LeadsUp (dir_in new) d) [
+          | inl same ↦ record { steps = suc up.steps; root = ap (climb up.steps (dir_in new)) same ∙ up.root }
+          | inr is ↦ subst (LeadsUp (dir_in new)) (ap (λ o. parent_by d (option_and_then (facts_in t d) o)) (ap (get t.nodes) is ∙ unused)) up
         ]
+
+    led : (i : ℕ) → kind_at t i ≡ Some kind.Dir → is_linked_in t i ≡ true → LeadsUp (dir_in new) i
+    led i dir h = let up = sound.lead i (is_linked t i (get t.nodes i) dir h) in climbs up.steps i up.root
+
+    lead : (i : ℕ) → linked_by (dir_in new i) ≡ true → LeadsUp (dir_in new) i
+    lead i h =
+        let dir = linked_dir new i (get new.nodes i) h in
+        elim (kind_back i kind.Dir dir) as (λ _. LeadsUp (dir_in new) i) [
+          | inl is ↦ let up = led u (ap (option_map kind_of_node) at) linked in
+              record { steps = suc up.steps; root = ap (climb up.steps (dir_in new)) (parent_new i is dir) ∙ up.root }
+          | inr old ↦ elim (linked_back i (linked_is new i (get new.nodes i) h)) as (λ _. LeadsUp (dir_in new) i) [
+            | inl is ↦ none_some (ap (option_map kind_of_node) (ap (get t.nodes) is ∙ unused)) old
+            | inr l ↦ led i old l
+          ]
+        ]
+
+    -- ---- directories that aren't linked
+
+    removed_before : (d : ℕ) (m : List ℕ) (b : Bool) → linked_by (dir_in t d) ≡ b → linked_by (option_and_then (facts_in new d) (get t.nodes d)) ≡ false → entry_of t d m ≡ None
+    removed_before d m false is h = sound.removed d m is
+    removed_before d m true is h =
+        no_way (sym h ∙ is_linked new d (get t.nodes d) (linked_dir t d (get t.nodes d) is) (linked_stays d (linked_is t d (get t.nodes d) is)))
+
+    removed : (d : ℕ) (m : List ℕ) → linked_by (dir_in new d) ≡ false → entry_of new d m ≡ None
+    removed d m =
+        node_case d (λ o. linked_by (option_and_then (facts_in new d) o) ≡ false → entry_in m o ≡ None)
+        (λ same h. no_way (sym h ∙ ap (is_linked_in new) same ∙ linked_stays u linked))
+        (λ same h. fresh_names u node fresh m)
+        (removed_before d m (linked_by (dir_in t d)) refl)
+
+    -- ---- what names give
+
+    given : (d i : ℕ) (m : List ℕ) → entry_of new d m ≡ Some (Ino i) → IsSome (kind_at new i)
+    given d i m e = elim (entry_back d m i e) as (λ _. IsSome (kind_at new i)) [
+      | inl x ↦ ap (λ o. is_some (option_map kind_of_node o)) (ap (get new.nodes) x.2 ∙ node_new)
+      | inr old ↦ some_stays (kind_at t i) (kind_at new i) (kind_stays i) (sound.given d i m old)
+    ]
+
+    old_dir : (d j : ℕ) (m : List ℕ) → entry_of t d m ≡ Some (Ino j) → kind_at new j ≡ Some kind.Dir → kind_at t j ≡ Some kind.Dir
+    old_dir d j m e dir = elim (kind_back j kind.Dir dir) as (λ _. kind_at t j ≡ Some kind.Dir) [ inl is ↦ dangling d j m e is | inr old ↦ old ]
+
+    its_parent : (d j : ℕ) (m : List ℕ) → entry_of new d m ≡ Some (Ino j) → kind_at new j ≡ Some kind.Dir → (j == 1) ≡ false → d ≡ parent_by j (dir_in new j)
+    its_parent d j m e dir other = elim (entry_back d m j e) as (λ _. d ≡ parent_by j (dir_in new j)) [
+      | inl x ↦ x.0 ∙ sym (parent_new j x.2 dir)
+      | inr old ↦ elim (parent_stays j) as (λ _. d ≡ parent_by j (dir_in new j)) [
+        | inl same ↦ (sound.once d j m old (old_dir d j m old dir) other).0 ∙ sym same
+        | inr is ↦ dangling d j m old is
       ]
-
-  -- ---- directories that aren't linked
-
-  removed_before : (d : ℕ) (m : List ℕ) (b : Bool) → linked_by (dir_in t d) ≡ b → linked_by (option_and_then (facts_in new d) (get t.nodes d)) ≡ false → entry_of t d m ≡ None
-  removed_before d m false is h = sound.removed d m is
-  removed_before d m true is h =
-      no_way (sym h ∙ is_linked new d (get t.nodes d) (linked_dir t d (get t.nodes d) is) (linked_stays d (linked_is t d (get t.nodes d) is)))
-
-  removed : (d : ℕ) (m : List ℕ) → linked_by (dir_in new d) ≡ false → entry_of new d m ≡ None
-  removed d m =
-      node_case d (λ o. linked_by (option_and_then (facts_in new d) o) ≡ false → entry_in m o ≡ None)
-      (λ same h. no_way (sym h ∙ ap (is_linked_in new) same ∙ linked_stays u linked))
-      (λ same h. fresh_names u node fresh m)
-      (removed_before d m (linked_by (dir_in t d)) refl)
-
-  -- ---- what names give
-
-  given : (d i : ℕ) (m : List ℕ) → entry_of new d m ≡ Some (Ino i) → IsSome (kind_at new i)
-  given d i m e = elim (entry_back d m i e) as (λ _. IsSome (kind_at new i)) [
-    | inl x ↦ ap (λ o. is_some (option_map kind_of_node o)) (ap (get new.nodes) x.2 ∙ node_new)
-    | inr old ↦ some_stays (kind_at t i) (kind_at new i) (kind_stays i) (sound.given d i m old)
-  ]
-
-  old_dir : (d j : ℕ) (m : List ℕ) → entry_of t d m ≡ Some (Ino j) → kind_at new j ≡ Some kind.Dir → kind_at t j ≡ Some kind.Dir
-  old_dir d j m e dir = elim (kind_back j kind.Dir dir) as (λ _. kind_at t j ≡ Some kind.Dir) [ inl is ↦ dangling d j m e is | inr old ↦ old ]
-
-  its_parent : (d j : ℕ) (m : List ℕ) → entry_of new d m ≡ Some (Ino j) → kind_at new j ≡ Some kind.Dir → (j == 1) ≡ false → d ≡ parent_by j (dir_in new j)
-  its_parent d j m e dir other = elim (entry_back d m j e) as (λ _. d ≡ parent_by j (dir_in new j)) [
-    | inl x ↦ x.0 ∙ sym (parent_new j x.2 dir)
-    | inr old ↦ elim (parent_stays j) as (λ _. d ≡ parent_by j (dir_in new j)) [
-      | inl same ↦ (sound.once d j m old (old_dir d j m old dir) other).0 ∙ sym same
-      | inr is ↦ dangling d j m old is
     ]
-  ]
 
-  its_name : (d j : ℕ) (m k : List ℕ) → entry_of new d m ≡ Some (Ino j) → entry_of new d k ≡ Some (Ino j) → kind_at new j ≡ Some kind.Dir → (j == 1) ≡ false → k ≡ m
-  its_name d j m k e f dir other = elim (entry_back d m j e) as (λ _. k ≡ m) [
-    | inl x ↦ elim (entry_back d k j f) as (λ _. k ≡ m) [ inl y ↦ y.1 ∙ sym x.1 | inr old ↦ dangling d j k old x.2 ]
-    | inr old ↦ elim (entry_back d k j f) as (λ _. k ≡ m) [
-      | inl y ↦ dangling d j m old y.2
-      | inr also ↦ ap name_or (sym (sound.once d j k also (old_dir d j k also dir) other).1 ∙ (sound.once d j m old (old_dir d j m old dir) other).1)
+    its_name : (d j : ℕ) (m k : List ℕ) → entry_of new d m ≡ Some (Ino j) → entry_of new d k ≡ Some (Ino j) → kind_at new j ≡ Some kind.Dir → (j == 1) ≡ false → k ≡ m
+    its_name d j m k e f dir other = elim (entry_back d m j e) as (λ _. k ≡ m) [
+      | inl x ↦ elim (entry_back d k j f) as (λ _. k ≡ m) [ inl y ↦ y.1 ∙ sym x.1 | inr old ↦ dangling d j k old x.2 ]
+      | inr old ↦ elim (entry_back d k j f) as (λ _. k ≡ m) [
+        | inl y ↦ dangling d j m old y.2
+        | inr also ↦ ap name_or (sym (sound.once d j k also (old_dir d j k also dir) other).1 ∙ (sound.once d j m old (old_dir d j m old dir) other).1)
+      ]
     ]
-  ]
 
-  once : (d j : ℕ) (m : List ℕ) → entry_of new d m ≡ Some (Ino j) → kind_at new j ≡ Some kind.Dir → (j == 1) ≡ false → (d ≡ parent_by j (dir_in new j)) × (dir_name new j ≡ Some m)
-  once d j m e dir other =
-      let p = its_parent d j m e dir other in
-      (p, name_is new j m dir (subst (λ x. entry_of new x m ≡ Some (Ino j)) p e) (λ k f. its_name d j m k e (subst (λ x. entry_of new x k ≡ Some (Ino j)) (sym p) f) dir other))
+    once : (d j : ℕ) (m : List ℕ) → entry_of new d m ≡ Some (Ino j) → kind_at new j ≡ Some kind.Dir → (j == 1) ≡ false → (d ≡ parent_by j (dir_in new j)) × (dir_name new j ≡ Some m)
+    once d j m e dir other =
+        let p = its_parent d j m e dir other in
+        (p, name_is new j m dir (subst (λ x. entry_of new x m ≡ Some (Ino j)) p e) (λ k f. its_name d j m k e (subst (λ x. entry_of new x k ≡ Some (Ino j)) (sym p) f) dir other))
 
-  -- the names of the store with the new node are sound
-  pub made_names : StoreNames new
-  made_names = record { lead = lead; removed = removed; given = given; once = once }
+    -- the names of the store with the new node are sound
+    pub made_names : StoreNames new
+    made_names = record { lead = lead; removed = removed; given = given; once = once }
 
-  -- ---- numbers and parents
+    -- ---- numbers and parents
 
-  pub made_below : AreBelow new.nodes new.next
-  made_below i =
-      node_case i (λ o. IsSome o → i < t.next + 1)
-      (λ same _. let less : u < t.next = below u (ap is_some at) in omega (arith, less, same))
-      (λ same _. omega (arith, same))
-      (λ there. let less : i < t.next = below i there in omega (arith, less))
+    pub made_below : AreBelow new.nodes new.next
+    made_below i =
+        node_case i (λ o. IsSome o → i < t.next + 1)
+        (λ same _. let less : u < t.next = below u (ap is_some at) in omega (arith, less, same))
+        (λ same _. omega (arith, same))
+        (λ there. let less : i < t.next = below i there in omega (arith, less))
 
-  parents_stay : (i : ℕ) (o : Option Node) → IfSome (option_and_then (facts_in t i) o) (λ d. IsSome (kind_at t d.parent)) → IfSome (option_and_then (facts_in new i) o) (λ d. IsSome (kind_at new d.parent))
-  parents_stay i (Some (Dir p o ns)) h = some_stays (kind_at t p) (kind_at new p) (kind_stays p) h
-  parents_stay i (Some (File bytes)) h = tt
-  parents_stay i (Some (Link target)) h = tt
-  parents_stay i None h = tt
+    parents_stay : (i : ℕ) (o : Option Node) → IfSome (option_and_then (facts_in t i) o) (λ d. IsSome (kind_at t d.parent)) → IfSome (option_and_then (facts_in new i) o) (λ d. IsSome (kind_at new d.parent))
+    parents_stay i (Some (Dir p o ns)) h = some_stays (kind_at t p) (kind_at new p) (kind_stays p) h
+    parents_stay i (Some (File bytes)) h = tt
+    parents_stay i (Some (Link target)) h = tt
+    parents_stay i None h = tt
 
-  fresh_parent : (i : ℕ) (x : Node) → IsFresh u x → IfSome (option_and_then (facts_in new i) (Some x)) (λ d. IsSome (kind_at new d.parent))
-  fresh_parent i (Dir p o ns) h = ap (λ q. is_some (kind_at new q)) h.0 ∙ ap is_some (kind_stays u kind.Dir (ap (option_map kind_of_node) at))
-  fresh_parent i (File bytes) h = tt
-  fresh_parent i (Link target) h = tt
+    fresh_parent : (i : ℕ) (x : Node) → IsFresh u x → IfSome (option_and_then (facts_in new i) (Some x)) (λ d. IsSome (kind_at new d.parent))
+    fresh_parent i (Dir p o ns) h = ap (λ q. is_some (kind_at new q)) h.0 ∙ ap is_some (kind_stays u kind.Dir (ap (option_map kind_of_node) at))
+    fresh_parent i (File bytes) h = tt
+    fresh_parent i (Link target) h = tt
 
-  -- the parent of each directory is there
-  pub made_parents : ((i : ℕ) → IfSome (dir_in t i) (λ d. IsSome (kind_at t d.parent))) → (i : ℕ) → IfSome (dir_in new i) (λ d. IsSome (kind_at new d.parent))
-  made_parents h i =
-      node_case i (λ o. IfSome (option_and_then (facts_in new i) o) (λ d. IsSome (kind_at new d.parent)))
-      (λ same. let own : IsSome (kind_at t parent) = subst (λ o. IfSome (option_and_then (facts_in t u) o) (λ d. IsSome (kind_at t d.parent))) at (h u) in
-      some_stays (kind_at t parent) (kind_at new parent) (kind_stays parent) own)
-      (λ same. fresh_parent i node fresh)
-      (parents_stay i (get t.nodes i) (h i))
+    -- the parent of each directory is there
+    pub made_parents : ((i : ℕ) → IfSome (dir_in t i) (λ d. IsSome (kind_at t d.parent))) → (i : ℕ) → IfSome (dir_in new i) (λ d. IsSome (kind_at new d.parent))
+    made_parents h i =
+        node_case i (λ o. IfSome (option_and_then (facts_in new i) o) (λ d. IsSome (kind_at new d.parent)))
+        (λ same. let own : IsSome (kind_at t parent) = subst (λ o. IfSome (option_and_then (facts_in t u) o) (λ d. IsSome (kind_at t d.parent))) at (h u) in
+        some_stays (kind_at t parent) (kind_at new parent) (kind_stays parent) own)
+        (λ same. fresh_parent i node fresh)
+        (parents_stay i (get t.nodes i) (h i))

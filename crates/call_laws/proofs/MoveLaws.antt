@@ -9,7 +9,7 @@ use Rattle.vfs_tree.specs.Edits.{with_names, with_node}
 use Rattle.vfs_tree.specs.Layers.{linked_by, parent_by}
 use Rattle.vfs_tree.specs.Nodes.{entry_in, is_white, is_given, AreBelow}
 use Rattle.vfs_tree.specs.Sound.{climb, LeadsUp}
-use Rattle.vfs_tree.specs.StoreEdits.{entry_of, with_node_at, set_entry, emptied, drop_entry, moved, renamed_to, renamed}
+use Rattle.vfs_tree.specs.StoreEdits.{entry_of, with_node_at, drop_entry, moved, renamed_to, renamed}
 use Rattle.vfs_tree.specs.Views.{kind_of_node, is_linked_in, facts_in, dir_in, dir_name}
 use Rattle.vfs_tree.specs.declared.node.Kind.TheVariants as kind
 use Rattle.vfs_tree.specs.declared.node.NameEntry.{NameEntry}
@@ -19,6 +19,7 @@ use Rattle.vfs_tree.specs.declared.node.Node.TheVariants.{Dir, File, Link}
 use Rattle.vfs_tree.specs.declared.node.Store.{Store}
 use Rattle.vfs_tree.specs.declared.view.DirFacts.{DirFacts}
 use Rattle.call_laws.proofs.ClimbLaws.{Avoids, AvoidsUp}
+use Rattle.call_laws.proofs.DropLaws as moves
 use Rattle.call_laws.proofs.DropLaws.{AreAlike, alike_through, alike_emptied, alike_drop, alike_set, at_node, set_case, drop_case, emptied_case, emptied_at, set_at, moved_kinds, moved_entry, some_kind, kind_some, dir_there, parent_there, white_ino, none_ino}
 use Rattle.call_laws.proofs.MadeLaws.{kind_at, none_some, same_parent, linked_is, is_linked, linked_dir, linked_way, linked_root, linked_named, inode_of, name_or}
 use Rattle.call_laws.proofs.NamedLaws.{no_way, named_from, named_to, name_is}
@@ -185,26 +186,19 @@ module _ (t : Store) (white hides : Bool) (from : ℕ) (old : List ℕ) (to : �
     (linked_from : linked_by (dir_in t from) ≡ true) (linked_to : linked_by (dir_in t to) ≡ true) (up : AvoidsUp (dir_in t) x to)
     (target : (j : ℕ) → entry_of t to n ≡ Some (Ino j) → (i : ℕ) (m : List ℕ) → entry_of t j m ≡ Some (Ino i) → ⊥) where
   abbrev one : Store
-  one = emptied t (entry_of t to n)
+  one = moves.one t white hides from old to n x
 
   abbrev two : Store
-  two = drop_entry white one from old
+  two = moves.two t white hides from old to n x
 
   abbrev three : Store
-  three = set_entry two to n (Ino x)
+  three = moves.three t white hides from old to n x
 
   abbrev four : Store
-  four = with_node_at (moved to hides) three x
-
-  alike_two : AreAlike t two
-  alike_two = alike_through t one two (alike_emptied t (entry_of t to n)) (alike_drop white one from old)
+  four = moves.four t white hides from old to n x
 
   alike_three : AreAlike t three
-  alike_three = alike_through t two three alike_two (alike_set two to n (Ino x))
-
-  cases : (d : ℕ) (m : List ℕ) (P : Option NameEntry → Type 0) → (d ≡ to → m ≡ n → P (Some (Ino x))) → (d ≡ from → m ≡ old → P (Some White)) → (d ≡ from → m ≡ old → P None)
-      → ((j : ℕ) → entry_of t to n ≡ Some (Ino j) → d ≡ j → P None) → P (entry_of t d m) → P (entry_of four d m)
-  cases d m P a b c e f = subst P (sym (moved_entry to hides three x d m)) (set_case two to n (Ino x) d m P a (drop_case white one from old d m P b c (emptied_case t (entry_of t to n) d m P e f)))
+  alike_three = moves.alike_three t white hides from old to n x
 
   dir_to : kind_at t to ≡ Some kind.Dir
   dir_to = linked_dir t to (get t.nodes to) linked_to
@@ -236,7 +230,7 @@ module _ (t : Store) (white hides : Bool) (from : ℕ) (old : List ℕ) (to : �
   dir_given : (d i : ℕ) (m : List ℕ) → entry_of four d m ≡ Some (Ino i) → IsPut d m i ⊎ ((entry_of t d m ≡ Some (Ino i)) × (i ≡ x → ⊥))
   dir_given d i m e =
       given_case d i m e (i == x) refl
-      (cases d m (λ o. o ≡ Some (Ino i) → IsPut d m i ⊎ (entry_of t d m ≡ Some (Ino i))) (λ p q e. inl (p, q, sym (ap inode_of e))) (λ _ _ e. white_ino e) (λ _ _ e. none_ino e) (λ _ _ _ e. none_ino e) (λ e. inr e) e)
+      (moves.cases t white hides from old to n x d m (λ o. o ≡ Some (Ino i) → IsPut d m i ⊎ (entry_of t d m ≡ Some (Ino i))) (λ p q e. inl (p, q, sym (ap inode_of e))) (λ _ _ e. white_ino e) (λ _ _ e. none_ino e) (λ _ _ _ e. none_ino e) (λ e. inr e) e)
 
   abbrev Replaced : ℕ → Type 0
   Replaced y = entry_of t to n ≡ Some (Ino y)
@@ -245,12 +239,12 @@ module _ (t : Store) (white hides : Bool) (from : ℕ) (old : List ℕ) (to : �
   dir_stays d i m e =
       let on : (o : Option NameEntry) → d ≡ from → m ≡ old → Replaced i ⊎ ((i ≡ x) ⊎ (o ≡ Some (Ino i))) = λ o p q.
       inr (inl (ap inode_of (sym e ∙ ap (entry_of t d) q ∙ ap (λ z. entry_of t z old) p ∙ at))) in
-      cases d m (λ o. Replaced i ⊎ ((i ≡ x) ⊎ (o ≡ Some (Ino i)))) (λ p q. inl (sym (ap (λ z. entry_of t z n) p) ∙ sym (ap (entry_of t d) q) ∙ e)) (on (Some White)) (on None)
+      moves.cases t white hides from old to n x d m (λ o. Replaced i ⊎ ((i ≡ x) ⊎ (o ≡ Some (Ino i)))) (λ p q. inl (sym (ap (λ z. entry_of t z n) p) ∙ sym (ap (entry_of t d) q) ∙ e)) (on (Some White)) (on None)
       (λ j is same. absurd (target j is i m (sym (ap (λ z. entry_of t z m) same) ∙ e))) (inr (inr e))
 
   dir_quiet : (d : ℕ) (m : List ℕ) → linked_by (dir_in t d) ≡ false → entry_of four d m ≡ None
   dir_quiet d m off =
-      cases d m (λ o. o ≡ None) (λ p _. no_way (sym off ∙ ap (λ z. linked_by (dir_in t z)) p ∙ linked_to)) (λ p _. no_way (sym off ∙ ap (λ z. linked_by (dir_in t z)) p ∙ linked_from)) (λ _ _. refl)
+      moves.cases t white hides from old to n x d m (λ o. o ≡ None) (λ p _. no_way (sym off ∙ ap (λ z. linked_by (dir_in t z)) p ∙ linked_to)) (λ p _. no_way (sym off ∙ ap (λ z. linked_by (dir_in t z)) p ∙ linked_from)) (λ _ _. refl)
       (λ _ _ _. refl) (well.names.removed d m off)
 
   dir_bare : (d : ℕ) (m : List ℕ) → Replaced d → entry_of four d m ≡ None
@@ -267,7 +261,7 @@ module _ (t : Store) (white hides : Bool) (from : ℕ) (old : List ℕ) (to : �
   moved_dir : IsKept t four
   moved_dir =
       moved_kept t four well x to n Replaced (λ d. moved_kinds to hides three x d ∙ alike_three.kinds d) alike_three.next dir_parents (moved_parent to hides three x (alike_three.kinds x ∙ dir)) dir dir_to up
-      dir_given dir_stays (moved_entry to hides three x to n ∙ set_at two to n (Ino x) (alike_two.kinds to ∙ dir_to)) dir_quiet dir_bare
+      dir_given dir_stays (moved_entry to hides three x to n ∙ set_at two to n (Ino x) ((moves.alike_two t white hides from old to n x).kinds to ∙ dir_to)) dir_quiet dir_bare
 
   -- a directory is moved to a name of a linked directory that isn't below it
   pub renamed_dir : (opaque : Bool) → hides ≡ (opaque || is_white (entry_of t to n)) → IsKept t (renamed white opaque t from old to n)

@@ -48,7 +48,7 @@ use Rattle.call_laws.proofs.NamedLaws.{no_way}
 use Rattle.call_laws.proofs.NeedLaws.{Free, FreeFound, free-has_visible}
 use Rattle.call_laws.proofs.Parts.{Keeps, MakesNode, Well, Ready, ready_at, found_so, refused, needed, weaker, then, unless, ready_bare, keeps-shadow, keeps-found_at, keeps-found_in, keeps-there_at}
 use Rattle.call_laws.proofs.PlaceLaws.{good_view, good_child_at}
-use Rattle.call_laws.proofs.SoundMade.{dir_at as the_dir, link_at}
+use Rattle.call_laws.proofs.SoundMade.{dir_at as the_dir}
 use Rattle.call_laws.proofs.SoundRows.{LeavesSo}
 use Rattle.call_laws.proofs.WalkLaws.{stands_at, IsTarget, IsEnd, FoundWell}
 use Rattle.call_laws.proofs.Whole.{IsWhole}
@@ -324,7 +324,7 @@ new_kind w s u n node h linked free fresh (Some t) e =
     let d = the_dir t u (get t.nodes u) link in
     let unused : is_given (get d.names n) ≡ false = sym (ap (λ o. is_given (entry_in n o)) d.at) ∙ ap is_given (sym (entry_is w s u n t e)) ∙ free in
     let well = well_store w h s t e in
-    let made_node : get (made t u n node).nodes t.next ≡ Some node = node_new t u n node d.parent d.opaque d.names well.below d.at (link_at t u (get t.nodes u) link) unused fresh well.names in
+    let made_node : get (made t u n node).nodes t.next ≡ Some node = node_new t u n node d.parent d.opaque d.names well.below d.at in
     ap (λ o. option_map kind_of_node (option_and_then (λ (x : Store). get x.nodes t.next) o)) (get_at-insert nat_cmp_total w.stores s (made t u n node)) ∙ ap (option_map kind_of_node) made_node
 new_kind w s u n node h linked free fresh None e = no_way (sym (ap (λ o. linked_by (option_and_then (λ (t : Store). dir_in t u) o)) e) ∙ linked)
 

@@ -14,7 +14,6 @@ use Rattle.vfs_tree.specs.Place.{Seen, Mem, Null, UnionUp, UnionLow, mount_of}
 use Rattle.vfs_tree.specs.Sound.{EachLayer, EachPlace, IsSoundPlace, IsSoundDir, IsBelow, IsSound}
 use Rattle.vfs_tree.specs.Start.{empty_dir, empty_store, root_mount, root_cwd, root_cwds, start_world}
 use Rattle.vfs_tree.specs.Views.{kind_of_node, facts_in, dir_in, facts_of}
-use Rattle.vfs_tree.specs.Walk.{in_cwd}
 use Rattle.vfs_tree.specs.declared.limits.Limits.{Limits}
 use Rattle.vfs_tree.specs.declared.mount.Mount.{Mount}
 use Rattle.vfs_tree.specs.declared.mount.MountKind.{MountKind}
@@ -33,8 +32,9 @@ use Rattle.call_model.specs.Rows.{Way, way, found_at}
 use Rattle.call_model.specs.declared.entry.Ref.{Ref}
 use Rattle.call_laws.specs.Lasting.{lower_mount, IsOver, IsUncut, AreCounted, IsLasting}
 use Rattle.call_laws.proofs.FlagLaws.{get_each}
-use Rattle.call_laws.proofs.FoundLaws.{IsGood, IsGoodView, head_uncut, good_layers, dir_ready, GoodChild, good-child}
-use Rattle.call_laws.proofs.WalkLaws.{StepsTo, steps_unless, stands_at, IsTarget, IsEnd, FoundWell, well_find}
+use Rattle.call_laws.proofs.FoundLaws.{IsGood, UncutNeed, IsGoodView, head_uncut, good_layers, dir_ready, GoodChild, good-child}
+use Rattle.call_laws.proofs.WalkInduction.{found_so}
+use Rattle.call_laws.proofs.WalkLaws.{stands_at, IsTarget, IsEnd, FoundWell, good_walks}
 use Rattle.call_laws.proofs.SoundLaws.{only, start_node, each_root}
 use Rattle.call_laws.proofs.NamedLaws.{no_way}
 use Rattle.call_laws.proofs.SoundParts.{first_of, if_each, or_none, mapped, number_or}
@@ -142,23 +142,24 @@ module _ (w : World) (h : IsSound w) (lasts : IsLasting w) where
   over_uncut (UnionUp m i) over cut = cut
   over_uncut (UnionLow m u n p) over cut = (cut, over_uncut p over.1 (lower_uncut m (mount_of p) (kind_in (facts_of w) m) refl over.0 cut))
 
-  good_in : (o : Option Cwd) → IfSome o (λ d. d.dead ≡ false → IsSoundPlace (facts_of w) d.place) → IfSome o (λ d. d.dead ≡ false → IsOver (facts_of w) d.place × (is_dir (facts_of w) d.place ≡ true))
-      → StepsTo (IsGood (facts_of w)) (in_cwd (facts_of w) o)
-  good_in (Some d) sound over =
-      steps_unless (IsGood (facts_of w)) d.dead _ _ (λ alive.
-      steps_unless (IsGood (facts_of w)) (is_cut (facts_of w) (mount_of d.place)) _ _ (λ cut.
-      record {
-        sound = sound alive;
-        uncut = over_uncut d.place (over alive).0 cut;
-        over = (over alive).0;
-        ready = dir_ready (facts_of w) d.place (sound alive).files (over alive).1;
-      }))
-  good_in None sound over = tt
+  -- a directory in a mount that isn't cut
+  pub good_dir : (p : Seen) → IsSoundPlace (facts_of w) p → IsOver (facts_of w) p → is_dir (facts_of w) p ≡ true → is_cut (facts_of w) (mount_of p) ≡ false → IsGood (facts_of w) p
+  good_dir p sound over dir cut = record { sound = sound; uncut = over_uncut p over cut; over = over; ready = dir_ready (facts_of w) p sound.files dir }
+
+  cwd_good : (o : Option Cwd) → IfSome o (λ d. d.dead ≡ false → IsSoundPlace (facts_of w) d.place) → IfSome o (λ d. d.dead ≡ false → IsOver (facts_of w) d.place × (is_dir (facts_of w) d.place ≡ true))
+      → IfSome o (λ d. d.dead ≡ false → is_cut (facts_of w) (mount_of d.place) ≡ false → IsGood (facts_of w) d.place)
+  cwd_good (Some d) sound over = λ alive cut. good_dir d.place (sound alive) (over alive).0 (over alive).1 cut
+  cwd_good None sound over = tt
+
+  -- where a caller's relative paths begin
+  pub good_cwd : (c : ℕ) → IfSome (get w.cwds c) (λ d. d.dead ≡ false → is_cut (facts_of w) (mount_of d.place) ≡ false → IsGood (facts_of w) d.place)
+  good_cwd c = cwd_good (get w.cwds c) (h.cwds c) (lasts.cwds c)
 
   -- what a path finds is well
   pub well_at : (c : ℕ) (o : Option Way) → FoundWell (facts_of w) (found_at w c o)
-  well_at c (Some x) = well_find (facts_of w) good_view x.leaf (in_cwd (facts_of w) (get w.cwds c)) (good_in (get w.cwds c) (h.cwds c) (lasts.cwds c)) x.text
-  well_at c None = tt
+  well_at c o =
+      let f = facts_of w in
+      found_so w (UncutNeed f) (IsGood f) (IsEnd f) (IsTarget f) (λ m. IsSome (f.mount m)) (good_walks f good_view) c (good_cwd c) o
 
   end_at : (a : Found) (p : Seen) → FoundWell (facts_of w) a → a ≡ found.At p → IsEnd (facts_of w) p
   end_at a p g is = subst (FoundWell (facts_of w)) is g

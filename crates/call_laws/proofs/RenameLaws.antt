@@ -41,7 +41,7 @@ use Rattle.call_laws.proofs.WholeLaws.{IsWell, IsKept, whole-store}
 abbrev Fits : World → Bool → Option Seen → Type 0
 Fits w b o = (q : Seen) → o ≡ Some q → (is_dir (facts_of w) q ≡ b) × (b ≡ true → has_visible w q ≡ Go false)
 
-true_and : (a b : Bool) → a ≡ true → (a && b) ≡ false → b ≡ false
+pub true_and : (a b : Bool) → a ≡ true → (a && b) ≡ false → b ≡ false
 true_and true b p q = q
 true_and false b p q = no_way p
 
@@ -59,23 +59,23 @@ module _ (w : World) (h : IsWhole w) (d source : Seen) (old : List ℕ) (new : T
   abbrev bs : NodeId
   bs = base f source
 
-  one_store : b.store ≡ bn.store
+  pub one_store : b.store ≡ bn.store
   one_store = same_store f (view_of w h) d new.dir x.good y.good (dir_upper f d x.good.sound.files x.dir) (dir_upper f new.dir y.good.sound.files y.dir) mounts
 
-  gives : Gives f b old source
+  pub gives : Gives f b old source
   gives = (given_target f (view_of w h) d old (Some source) x).0 upper
 
   module _ (t : Store) (e : get w.stores b.store ≡ Some t) (well : IsWell t) where
-    there_too : get w.stores bn.store ≡ Some t
+    pub there_too : get w.stores bn.store ≡ Some t
     there_too = ap (get w.stores) (sym one_store) ∙ e
 
-    at_old : entry_of t b.ino old ≡ Some (Ino bs.ino)
+    pub at_old : entry_of t b.ino old ≡ Some (Ino bs.ino)
     at_old = sym (entry_is w b.store b.ino old t e) ∙ gives.at
 
-    from_linked : linked_by (dir_in t b.ino) ≡ true
+    pub from_linked : linked_by (dir_in t b.ino) ≡ true
     from_linked = linked_in w d old (Some source) t x e
 
-    to_linked : linked_by (dir_in t bn.ino) ≡ true
+    pub to_linked : linked_by (dir_in t bn.ino) ≡ true
     to_linked = linked_in w new.dir new.name new.child t y there_too
 
     abbrev hides : Bool

@@ -55,7 +55,7 @@ use Rattle.call_laws.specs.Revoking.{IsRevoking, first_open_on}
 
 -- ---- one place, one node
 
-same_seen : (p q : Seen) → same_place p q ≡ true → p ≡ q
+pub same_seen : (p q : Seen) → same_place p q ≡ true → p ≡ q
 same_seen (Mem m i) (Mem n j) e = let b = and_parts (m == n) (i == j) e in λ t. Mem (eqb-true m n b.0 t) (eqb-true i j b.1 t)
 same_seen (Mem m i) (Null n q) e = absurd cc
 same_seen (Mem m i) (UnionUp n j) e = absurd cc

@@ -19,7 +19,7 @@ Agree (child.At p) b = b ≡ child.At p
 Agree child.Absent b = b ≡ child.Absent
 Agree (child.Need x) b = Unit {0}
 
-abbrev AgreeAt : Lookup → Lookup → Type 0
+abbrev pub AgreeAt : Lookup → Lookup → Type 0
 AgreeAt look show = (d : Seen) (n : List ℕ) → Agree (look d n) (show d n)
 
 agree-itself : (a : Child) → Agree a a
@@ -32,7 +32,7 @@ agree-null m (child.At p) b e = ap (child_null m) e
 agree-null m child.Absent b e = ap (child_null m) e
 agree-null m (child.Need x) b e = tt
 
-agree-below : (look show : Lookup) → AgreeAt look show → (a b : Child) → Agree a b → (n : List ℕ) → Agree (child_below look a n) (child_below show b n)
+pub agree-below : (look show : Lookup) → AgreeAt look show → (a b : Child) → Agree a b → (n : List ℕ) → Agree (child_below look a n) (child_below show b n)
 agree-below look show h (child.At d) b e n = subst (λ x. Agree (look d n) (child_below show x n)) (sym e) (h d n)
 agree-below look show h child.Absent b e n = ap (λ x. child_below show x n) e
 agree-below look show h (child.Need x) b e n = tt
@@ -66,7 +66,7 @@ agree-if : (b : Bool) (x y : Child) → Agree x y → Agree (cond b x child.Abse
 agree-if true x y h = h
 agree-if false x y h = refl
 
-agree-low_by : (f : Facts) (look show : Lookup) → AgreeAt look show → (u : ℕ) (k : Option MountKind) → Agree (low_by f look u k) (low_by f show u k)
+pub agree-low_by : (f : Facts) (look show : Lookup) → AgreeAt look show → (u : ℕ) (k : Option MountKind) → Agree (low_by f look u k) (low_by f show u k)
 agree-low_by f look show h u (Some (kind.Union s upper lower)) =
     agree-if (is_linked f s u) (low_within steps f look s upper lower u) (low_within steps f show s upper lower u) (agree-low_within steps f look show h s upper lower u)
 agree-low_by f look show h u (Some kind.Mem) = refl
@@ -91,7 +91,7 @@ agree-union f m u n (Some (Ino i)) below shows h = refl
 agree-union f m u n (Some White) below shows h = refl
 agree-union f m u n None below shows h = agree-lower f m u n (below n) (shows n) h
 
-agree-within : (k : ℕ) (f : Facts) (d : Seen) (n : List ℕ) → Agree (child_within k f d n) (shown_within k f d n)
+pub agree-within : (k : ℕ) (f : Facts) (d : Seen) (n : List ℕ) → Agree (child_within k f d n) (shown_within k f d n)
 agree-within zero f d n = refl
 agree-within (suc k) f (Mem m i) n = agree-itself (child_within (suc k) f (Mem m i) n)
 agree-within (suc k) f (Null m p) n = agree-null m (child_within k f p n) (shown_within k f p n) (agree-within k f p n)

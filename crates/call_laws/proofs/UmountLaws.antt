@@ -45,7 +45,7 @@ NamesNot m (UnionLow n u a p) = (n ≡ m → ⊥) × NamesNot m p
 
 -- ---- places that don't name the mount
 
-module _ (f g : Facts) (m : ℕ) (same : (n : ℕ) → (n ≡ m → ⊥) → kind_in g n ≡ kind_in f n) (nodes : (s i : ℕ) → g.kind s i ≡ f.kind s i) (cuts : (n : ℕ) → is_cut f n ≡ false → is_cut g n ≡ false) where
+module _ (f g : Facts) (m : ℕ) (same : (n : ℕ) → (n ≡ m → ⊥) → kind_in g n ≡ kind_in f n) (nodes : (s i : ℕ) → g.kind s i ≡ f.kind s i) where
   free_names : (p : Seen) → NamesNot m p → names_mounts f p ≡ true → names_mounts g p ≡ true
   free_names (Mem n i) x h = ap is_mem (same n x) ∙ h
   free_names (Null n p) x h =
@@ -60,7 +60,7 @@ module _ (f g : Facts) (m : ℕ) (same : (n : ℕ) → (n ≡ m → ⊥) → kin
   free_base (UnionUp n i) x = let at : Option MountKind → NodeId = λ o. record { store = store_by o; ino = i } in ap at (same n x)
   free_base (UnionLow n u a p) x = free_base p x.1
 
-  free_kind : (p : Seen) → NamesNot m p → kind_of g p ≡ kind_of f p
+  pub free_kind : (p : Seen) → NamesNot m p → kind_of g p ≡ kind_of f p
   free_kind p x = ap (λ (b : NodeId). g.kind b.store b.ino) (free_base p x) ∙ nodes (base f p).store (base f p).ino
 
   free_files : (p : Seen) → NamesNot m p → AreFiles f p → AreFiles g p
@@ -69,33 +69,40 @@ module _ (f g : Facts) (m : ℕ) (same : (n : ℕ) → (n ≡ m → ⊥) → kin
   free_files (UnionUp n i) x h = tt
   free_files (UnionLow n u a p) x h = (ap is_dir_kind (free_kind p x.1) ∙ h.0, free_files p x.1 h.1)
 
-  free_sound : (p : Seen) → NamesNot m p → IsSoundPlace f p → IsSoundPlace g p
+  pub free_sound : (p : Seen) → NamesNot m p → IsSoundPlace f p → IsSoundPlace g p
   free_sound p x h = record { mounts = free_names p x h.mounts; base = ap is_some (free_kind p x) ∙ h.base; files = free_files p x h.files }
 
-  free_dir : (p : Seen) → NamesNot m p → IsSoundDir f p → IsSoundDir g p
+  pub free_dir : (p : Seen) → NamesNot m p → IsSoundDir f p → IsSoundDir g p
   free_dir p x h = record { place = free_sound p x h.place; dir = ap is_dir_kind (free_kind p x) ∙ h.dir }
 
-  free_over : (p : Seen) → NamesNot m p → IsOver f p → IsOver g p
+  pub free_over : (p : Seen) → NamesNot m p → IsOver f p → IsOver g p
   free_over (Mem n i) x h = tt
   free_over (Null n p) x h = (ap lower_mount (same n x.0) ∙ h.0, free_over p x.1 h.1)
   free_over (UnionUp n i) x h = tt
   free_over (UnionLow n u a p) x h = (ap lower_mount (same n x.0) ∙ h.0, free_over p x.1 h.1)
 
-  free_uncut : (p : Seen) → IsUncut f p → IsUncut g p
-  free_uncut (Mem n i) h = cuts n h
-  free_uncut (Null n p) h = (cuts n h.0, free_uncut p h.1)
-  free_uncut (UnionUp n i) h = cuts n h
-  free_uncut (UnionLow n u a p) h = (cuts n h.0, free_uncut p h.1)
+free_uncut : (f g : Facts) → ((n : ℕ) → is_cut f n ≡ false → is_cut g n ≡ false) → (p : Seen) → IsUncut f p → IsUncut g p
+free_uncut f g cuts (Mem n i) h = cuts n h
+free_uncut f g cuts (Null n p) h = (cuts n h.0, free_uncut f g cuts p h.1)
+free_uncut f g cuts (UnionUp n i) h = cuts n h
+free_uncut f g cuts (UnionLow n u a p) h = (cuts n h.0, free_uncut f g cuts p h.1)
 
 -- ---- a mount is removed
 
+pub and_layers : (P Q R : Seen → Type 0) → ((p : Seen) → P p → Q p → R p) → (k : MountKind) → EachLayer P k → EachLayer Q k → EachLayer R k
+and_layers P Q R f kind.Mem a b = tt
+and_layers P Q R f (kind.Null layer) a b = f layer a b
+and_layers P Q R f (kind.Union s u lower) a b = (f _ a.0 b.0, f lower a.1 b.1)
+
 and_places : (P Q R : Seen → Type 0) → ((p : Seen) → P p → Q p → R p) → (t : Mount) → EachPlace P t → EachPlace Q t → EachPlace R t
-and_places P Q R f t p q = (if_both P Q R f t.on p.0 q.0, by t.kind p.1 q.1)
-  where
-    by : (k : MountKind) → EachLayer P k → EachLayer Q k → EachLayer R k
-    by kind.Mem a b = tt
-    by (kind.Null layer) a b = f layer a b
-    by (kind.Union s u lower) a b = (f _ a.0 b.0, f lower a.1 b.1)
+and_places P Q R f t p q = (if_both P Q R f t.on p.0 q.0, and_layers P Q R f t.kind p.1 q.1)
+
+-- the other mounts are as before
+pub other_mount : (mounts : FinMap nat_cmp Mount) (m n : ℕ) → (n ≡ m → ⊥) → get (remove mounts m) n ≡ get mounts n
+other_mount mounts m n ne = get-remove nat_cmp_total mounts m n ∙ (elim (eq_by_cmp nat_cmp n m) as (λ b. eq_by_cmp nat_cmp n m ≡ b → cond b None (get mounts n) ≡ get mounts n) [
+  | true ↦ λ e. absurd (ne (exact_unsigned n m (equal _ e)))
+  | false ↦ λ _. refl
+] refl)
 
 module _ (w : World) (h : IsWhole w) (m : ℕ) (leaving : FinMap nat_cmp ℕ) (other : m ≡ 0 → ⊥)
     (opens : (k : ℕ × ℕ) → IfSome (get w.opens k) (λ o. o.dead ≡ false → NamesNot m o.place)) (cwds : (c : ℕ) → IfSome (get w.cwds c) (λ d. d.dead ≡ false → NamesNot m d.place))
@@ -119,15 +126,8 @@ module _ (w : World) (h : IsWhole w) (m : ℕ) (leaving : FinMap nat_cmp ℕ) (o
       same_key : (n m : ℕ) → n ≡ m → eq_by_cmp nat_cmp n m ≡ true
       same_key n m is = ap (λ x. eq_by_cmp nat_cmp x m) is ∙ ap is_eq (tied_itself nat_cmp_total m)
 
-  -- the other mounts are as before
-  other_mount : (n : ℕ) → (n ≡ m → ⊥) → get v.mounts n ≡ get w.mounts n
-  other_mount n ne = get-remove nat_cmp_total w.mounts m n ∙ (elim (eq_by_cmp nat_cmp n m) as (λ b. eq_by_cmp nat_cmp n m ≡ b → cond b None (get w.mounts n) ≡ get w.mounts n) [
-    | true ↦ λ e. absurd (ne (exact_unsigned n m (equal _ e)))
-    | false ↦ λ _. refl
-  ] refl)
-
   same : (n : ℕ) → (n ≡ m → ⊥) → kind_in g n ≡ kind_in f n
-  same n ne = ap (option_map (λ (t : Mount). t.kind)) (other_mount n ne)
+  same n ne = ap (option_map (λ (t : Mount). t.kind)) (other_mount w.mounts m n ne)
 
   cuts : (n : ℕ) → is_cut f n ≡ false → is_cut g n ≡ false
   cuts n is = at_mount n (λ o. cut_by o ≡ false) refl (λ _. is)
@@ -153,14 +153,14 @@ module _ (w : World) (h : IsWhole w) (m : ℕ) (leaving : FinMap nat_cmp ℕ) (o
       names = h.sound.view.names;
       places = λ n. at_mount n (λ o. IfSome o (λ t. t.cut ≡ false → EachPlace (IsSoundDir g) t)) tt (λ _.
           if_both (λ t. t.cut ≡ false → EachPlace (NamesNot m) t) (λ t. t.cut ≡ false → EachPlace (IsSoundDir f) t) (λ t. t.cut ≡ false → EachPlace (IsSoundDir g) t)
-          (λ t x y cut. and_places (NamesNot m) (IsSoundDir f) (IsSoundDir g) (free_dir f g m same nodes cuts) t (x cut) (y cut)) (get w.mounts n) (mounts n) (h.sound.view.places n));
+          (λ t x y cut. and_places (NamesNot m) (IsSoundDir f) (IsSoundDir g) (free_dir f g m same nodes) t (x cut) (y cut)) (get w.mounts n) (mounts n) (h.sound.view.places n));
       root = same 0 zero_other ∙ h.sound.view.root;
       smaller = λ n. at_mount n (λ o. IfSome o (EachPlace (IsBelow n))) tt (λ _. h.sound.view.smaller n);
     };
     opens = λ k. if_both (λ o. o.dead ≡ false → NamesNot m o.place) (λ o. o.dead ≡ false → IsSoundPlace f o.place) (λ o. o.dead ≡ false → IsSoundPlace g o.place)
-        (λ o x y e. free_sound f g m same nodes cuts o.place (x e) (y e)) (get w.opens k) (opens k) (h.sound.opens k);
+        (λ o x y e. free_sound f g m same nodes o.place (x e) (y e)) (get w.opens k) (opens k) (h.sound.opens k);
     cwds = λ c. if_both (λ o. o.dead ≡ false → NamesNot m o.place) (λ o. o.dead ≡ false → IsSoundPlace f o.place) (λ o. o.dead ≡ false → IsSoundPlace g o.place)
-        (λ o x y e. free_sound f g m same nodes cuts o.place (x e) (y e)) (get w.cwds c) (cwds c) (h.sound.cwds c);
+        (λ o x y e. free_sound f g m same nodes o.place (x e) (y e)) (get w.cwds c) (cwds c) (h.sound.cwds c);
     apart = λ p a b x y. h.sound.apart p a b (on_before p a x) (on_before p b y);
   }
 
@@ -175,14 +175,14 @@ module _ (w : World) (h : IsWhole w) (m : ℕ) (leaving : FinMap nat_cmp ℕ) (o
     parents = h.lasts.parents;
     first = cuts 0 h.lasts.first;
     uncut = λ n. at_mount n (λ o. IfSome o (λ t. t.cut ≡ false → EachPlace (IsUncut g) t)) tt (λ _.
-        if_each (λ t. t.cut ≡ false → EachPlace (IsUncut f) t) (λ t. t.cut ≡ false → EachPlace (IsUncut g) t) (λ t x cut. each_place (IsUncut f) (IsUncut g) (free_uncut f g m same nodes cuts) t (x cut)) (get w.mounts n) (h.lasts.uncut n));
+        if_each (λ t. t.cut ≡ false → EachPlace (IsUncut f) t) (λ t. t.cut ≡ false → EachPlace (IsUncut g) t) (λ t x cut. each_place (IsUncut f) (IsUncut g) (free_uncut f g cuts) t (x cut)) (get w.mounts n) (h.lasts.uncut n));
     overs = λ n. at_mount n (λ o. IfSome o (λ t. t.cut ≡ false → EachPlace (IsOver g) t)) tt (λ _.
         if_both (λ t. t.cut ≡ false → EachPlace (NamesNot m) t) (λ t. t.cut ≡ false → EachPlace (IsOver f) t) (λ t. t.cut ≡ false → EachPlace (IsOver g) t)
-        (λ t x y cut. and_places (NamesNot m) (IsOver f) (IsOver g) (free_over f g m same nodes cuts) t (x cut) (y cut)) (get w.mounts n) (mounts n) (h.lasts.overs n));
+        (λ t x y cut. and_places (NamesNot m) (IsOver f) (IsOver g) (free_over f g m same nodes) t (x cut) (y cut)) (get w.mounts n) (mounts n) (h.lasts.overs n));
     opens = λ k. if_both (λ o. o.dead ≡ false → NamesNot m o.place) (λ o. o.dead ≡ false → IsOver f o.place) (λ o. o.dead ≡ false → IsOver g o.place)
-        (λ o x y e. free_over f g m same nodes cuts o.place (x e) (y e)) (get w.opens k) (opens k) (h.lasts.opens k);
+        (λ o x y e. free_over f g m same nodes o.place (x e) (y e)) (get w.opens k) (opens k) (h.lasts.opens k);
     cwds = λ c. if_both (λ d. d.dead ≡ false → NamesNot m d.place) (λ d. d.dead ≡ false → IsOver f d.place × (is_dir f d.place ≡ true)) (λ d. d.dead ≡ false → IsOver g d.place × (is_dir g d.place ≡ true))
-        (λ d x y e. (free_over f g m same nodes cuts d.place (x e) (y e).0, ap is_dir_kind (free_kind f g m same nodes cuts d.place (x e)) ∙ (y e).1)) (get w.cwds c) (cwds c) (h.lasts.cwds c);
+        (λ d x y e. (free_over f g m same nodes d.place (x e) (y e).0, ap is_dir_kind (free_kind f g m same nodes d.place (x e)) ∙ (y e).1)) (get w.cwds c) (cwds c) (h.lasts.cwds c);
     left = λ c. if_each (λ n. (n < w.next_mount) × IfSome (get w.mounts n) (λ t. t.cut ≡ true)) (λ n. (n < w.next_mount) × IfSome (get v.mounts n) (λ t. t.cut ≡ true)) still_cut (get leaving c)
         (fewer c (λ n. (n < w.next_mount) × IfSome (get w.mounts n) (λ t. t.cut ≡ true)) (h.lasts.left c));
     counted = record {
@@ -198,18 +198,18 @@ module _ (w : World) (h : IsWhole w) (m : ℕ) (leaving : FinMap nat_cmp ℕ) (o
 
 -- ---- unmount(2): nothing refers to the mount
 
-module _ (w : World) (h : IsWhole w) (m : ℕ) (free : has_references w m ≡ false) where
+module _ (w : World) (m : ℕ) (free : has_references w m ≡ false) where
   unopened : is_open_in w m ≡ false
   unopened = (or_none (is_open_in w m) (is_cwd_in w m || is_mounted_in w m) free).0
 
   unentered : is_cwd_in w m ≡ false
   unentered = (or_none (is_cwd_in w m) (is_mounted_in w m) (or_none (is_open_in w m) (is_cwd_in w m || is_mounted_in w m) free).1).0
 
-  unmounted : is_mounted_in w m ≡ false
+  pub unmounted : is_mounted_in w m ≡ false
   unmounted = (or_none (is_cwd_in w m) (is_mounted_in w m) (or_none (is_open_in w m) (is_cwd_in w m || is_mounted_in w m) free).1).1
 
   -- no layer lies in it
-  no_layer : (n : ℕ) (o : Option Mount) → get w.mounts n ≡ o → (l : ℕ) → IsLayer o l → l ≡ m → ⊥
+  pub no_layer : (n : ℕ) (o : Option Mount) → get w.mounts n ≡ o → (l : ℕ) → IsLayer o l → l ≡ m → ⊥
   no_layer n (Some t) at l layer is =
       no_way (sym unmounted ∙ value_any nat_cmp (λ t. covers_in w.leaving (λ n. n == m) t || list_any (λ l. l == m) (layers t.kind)) w.mounts n t at
       (or_second (covers_in w.leaving (λ n. n == m) t) (list_any (λ l. l == m) (layers t.kind)) (layer (λ l. l == m) (eq-eqb l m is))))
@@ -218,7 +218,7 @@ module _ (w : World) (h : IsWhole w) (m : ℕ) (free : has_references w m ≡ fa
   lower_apart : (n l : ℕ) → lower_mount (kind_in (facts_of w) n) ≡ Some l → l ≡ m → ⊥
   lower_apart n l e = no_layer n (get w.mounts n) refl l (is_layer (get w.mounts n) (kind_in (facts_of w) n) l refl e)
 
-  names_not : (p : Seen) → IsOver (facts_of w) p → (mount_of p ≡ m → ⊥) → NamesNot m p
+  pub names_not : (p : Seen) → IsOver (facts_of w) p → (mount_of p ≡ m → ⊥) → NamesNot m p
   names_not (Mem n i) over ne = ne
   names_not (Null n p) over ne = (ne, names_not p over.1 (lower_apart n (mount_of p) over.0))
   names_not (UnionUp n i) over ne = ne
@@ -232,42 +232,43 @@ module _ (w : World) (h : IsWhole w) (m : ℕ) (free : has_references w m ≡ fa
   cwd_head c d at alive is =
       no_way (sym unentered ∙ value_any nat_cmp (λ d. not d.dead && (mount_of d.place == m)) w.cwds c d at (both_of (not d.dead) (mount_of d.place == m) (ap not alive) (eq-eqb (mount_of d.place) m is)))
 
-  on_head : (n : ℕ) (t : Mount) → get w.mounts n ≡ Some t → t.number ≡ n → t.cut ≡ false → (p : Seen) → t.on ≡ Some p → mount_of p ≡ m → ⊥
-  on_head n t at number cut p on is =
-      let stays : not (is_left w.leaving t.number) ≡ true = ap (λ x. not (is_left w.leaving x)) number ∙ ap not (left_cut w n t h at cut) in
-      let lies : is_on_in (λ n. n == m) t.on ≡ true = ap (is_on_in (λ n. n == m)) on ∙ eq-eqb (mount_of p) m is in
-      no_way (sym unmounted ∙ value_any nat_cmp (λ t. covers_in w.leaving (λ n. n == m) t || list_any (λ l. l == m) (layers t.kind)) w.mounts n t at
-      (or_first (covers_in w.leaving (λ n. n == m) t) (list_any (λ l. l == m) (layers t.kind)) (both_of (is_on_in (λ n. n == m) t.on) (not (is_left w.leaving t.number)) lies stays)))
+  module _ (h : IsWhole w) where
+    on_head : (n : ℕ) (t : Mount) → get w.mounts n ≡ Some t → t.number ≡ n → t.cut ≡ false → (p : Seen) → t.on ≡ Some p → mount_of p ≡ m → ⊥
+    on_head n t at number cut p on is =
+        let stays : not (is_left w.leaving t.number) ≡ true = ap (λ x. not (is_left w.leaving x)) number ∙ ap not (left_cut w n t h at cut) in
+        let lies : is_on_in (λ n. n == m) t.on ≡ true = ap (is_on_in (λ n. n == m)) on ∙ eq-eqb (mount_of p) m is in
+        no_way (sym unmounted ∙ value_any nat_cmp (λ t. covers_in w.leaving (λ n. n == m) t || list_any (λ l. l == m) (layers t.kind)) w.mounts n t at
+        (or_first (covers_in w.leaving (λ n. n == m) t) (list_any (λ l. l == m) (layers t.kind)) (both_of (is_on_in (λ n. n == m) t.on) (not (is_left w.leaving t.number)) lies stays)))
 
-  opens_not : (k : ℕ × ℕ) (o : Option Open) → get w.opens k ≡ o → IfSome o (λ o. o.dead ≡ false → IsOver (facts_of w) o.place) → IfSome o (λ o. o.dead ≡ false → NamesNot m o.place)
-  opens_not k (Some o) at over = λ alive. names_not o.place (over alive) (open_head k o at alive)
-  opens_not k None at over = tt
+    opens_not : (k : ℕ × ℕ) (o : Option Open) → get w.opens k ≡ o → IfSome o (λ o. o.dead ≡ false → IsOver (facts_of w) o.place) → IfSome o (λ o. o.dead ≡ false → NamesNot m o.place)
+    opens_not k (Some o) at over = λ alive. names_not o.place (over alive) (open_head k o at alive)
+    opens_not k None at over = tt
 
-  cwds_not : (c : ℕ) (o : Option Cwd) → get w.cwds c ≡ o → IfSome o (λ d. d.dead ≡ false → IsOver (facts_of w) d.place × (is_dir (facts_of w) d.place ≡ true)) → IfSome o (λ d. d.dead ≡ false → NamesNot m d.place)
-  cwds_not c (Some d) at over = λ alive. names_not d.place (over alive).0 (cwd_head c d at alive)
-  cwds_not c None at over = tt
+    cwds_not : (c : ℕ) (o : Option Cwd) → get w.cwds c ≡ o → IfSome o (λ d. d.dead ≡ false → IsOver (facts_of w) d.place × (is_dir (facts_of w) d.place ≡ true)) → IfSome o (λ d. d.dead ≡ false → NamesNot m d.place)
+    cwds_not c (Some d) at over = λ alive. names_not d.place (over alive).0 (cwd_head c d at alive)
+    cwds_not c None at over = tt
 
-  on_not : (n : ℕ) (t : Mount) → get w.mounts n ≡ Some t → t.number ≡ n → t.cut ≡ false → (o : Option Seen) → t.on ≡ o → IfSome o (IsOver (facts_of w)) → IfSome o (NamesNot m)
-  on_not n t at number cut (Some p) on over = names_not p over (on_head n t at number cut p on)
-  on_not n t at number cut None on over = tt
+    on_not : (n : ℕ) (t : Mount) → get w.mounts n ≡ Some t → t.number ≡ n → t.cut ≡ false → (o : Option Seen) → t.on ≡ o → IfSome o (IsOver (facts_of w)) → IfSome o (NamesNot m)
+    on_not n t at number cut (Some p) on over = names_not p over (on_head n t at number cut p on)
+    on_not n t at number cut None on over = tt
 
-  layers_not : (n : ℕ) (k : MountKind) → kind_in (facts_of w) n ≡ Some k → EachLayer (IsOver (facts_of w)) k → EachLayer (NamesNot m) k
-  layers_not n kind.Mem is over = tt
-  layers_not n (kind.Null layer) is over = names_not layer over (no_layer n (get w.mounts n) refl (mount_of layer) (null_layer (get w.mounts n) layer is))
-  layers_not n (kind.Union s u lower) is over = (
-    no_layer n (get w.mounts n) refl s (upper_layer (get w.mounts n) s u lower is),
-    names_not lower over.1 (no_layer n (get w.mounts n) refl (mount_of lower) (lower_layer (get w.mounts n) s u lower is)),
-  )
+    layers_not : (n : ℕ) (k : MountKind) → kind_in (facts_of w) n ≡ Some k → EachLayer (IsOver (facts_of w)) k → EachLayer (NamesNot m) k
+    layers_not n kind.Mem is over = tt
+    layers_not n (kind.Null layer) is over = names_not layer over (no_layer n (get w.mounts n) refl (mount_of layer) (null_layer (get w.mounts n) layer is))
+    layers_not n (kind.Union s u lower) is over = (
+      no_layer n (get w.mounts n) refl s (upper_layer (get w.mounts n) s u lower is),
+      names_not lower over.1 (no_layer n (get w.mounts n) refl (mount_of lower) (lower_layer (get w.mounts n) s u lower is)),
+    )
 
-  mounts_not : (n : ℕ) (o : Option Mount) → get w.mounts n ≡ o → IfSome o (λ t. t.number ≡ n) → IfSome o (λ t. t.cut ≡ false → EachPlace (IsOver (facts_of w)) t) → IfSome o (λ t. t.cut ≡ false → EachPlace (NamesNot m) t)
-  mounts_not n (Some t) at number over = λ cut.
-      (on_not n t at number cut t.on refl (over cut).0, layers_not n t.kind (ap (option_map (λ (t : Mount). t.kind)) at) (over cut).1)
-  mounts_not n None at number over = tt
+    mounts_not : (n : ℕ) (o : Option Mount) → get w.mounts n ≡ o → IfSome o (λ t. t.number ≡ n) → IfSome o (λ t. t.cut ≡ false → EachPlace (IsOver (facts_of w)) t) → IfSome o (λ t. t.cut ≡ false → EachPlace (NamesNot m) t)
+    mounts_not n (Some t) at number over = λ cut.
+        (on_not n t at number cut t.on refl (over cut).0, layers_not n t.kind (ap (option_map (λ (t : Mount). t.kind)) at) (over cut).1)
+    mounts_not n None at number over = tt
 
-  pub whole-without : (m ≡ 0 → ⊥) → IsWhole (rows.without_mount w m)
-  whole-without other =
-      whole-gone w h m w.leaving other (λ k. opens_not k (get w.opens k) refl (h.lasts.opens k)) (λ c. cwds_not c (get w.cwds c) refl (h.lasts.cwds c))
-      (λ n. mounts_not n (get w.mounts n) refl (h.lasts.mounts n) (h.lasts.overs n)) (λ n ne x. x) (λ c Q x. x)
+    pub whole-without : (m ≡ 0 → ⊥) → IsWhole (rows.without_mount w m)
+    whole-without other =
+        whole-gone w h m w.leaving other (λ k. opens_not k (get w.opens k) refl (h.lasts.opens k)) (λ c. cwds_not c (get w.cwds c) refl (h.lasts.cwds c))
+        (λ n. mounts_not n (get w.mounts n) refl (h.lasts.mounts n) (h.lasts.overs n)) (λ n ne x. x) (λ c Q x. x)
 
 not_zero : (m : ℕ) → (m == 0) ≡ false → m ≡ 0 → ⊥
 not_zero m e is = no_way (sym e ∙ eq-eqb m 0 is)
@@ -275,7 +276,7 @@ not_zero m e is = no_way (sym e ∙ eq-eqb m 0 is)
 pub whole-umount : (w : World) (a : Found) → FreeFound (facts_of w) a → IsWhole w → Keeps (LeavesSo IsWhole) (MakesNode w) (rows.umount w a)
 whole-umount w a fa h =
     then (mount_at w a) (keeps-mount_at w a fa) (λ m _.
-    unless (m == 0) _ (λ other. unless (has_references w m) _ (λ free. found_so (whole-without w h m free (not_zero m other)))))
+    unless (m == 0) _ (λ other. unless (has_references w m) _ (λ free. found_so (whole-without w m free h (not_zero m other)))))
 
 -- ---- the end of a forced unmount: no live reference is in the mount, or in one that stands on it
 
@@ -314,7 +315,7 @@ any_alike : {K X : Type 0} (p : Reference → Bool) (q : X → Bool) (g : K × X
 any_alike p q g h [] = refl
 any_alike p q g h (e ∷ es) = ap (λ b. b || list_any p (map g es)) (h e) ∙ ap (λ b. q e.1 || b) (any_alike p q g h es)
 
-module _ (w : World) (h : IsWhole w) (c m : ℕ) (leaves : get w.leaving c ≡ Some m) (none : first_in w m ≡ None) where
+module _ (w : World) (m : ℕ) (none : first_in w m ≡ None) where
   abbrev among : Seen → Bool
   among p = is_of w.mounts m (mount_of p)
 
@@ -334,98 +335,99 @@ module _ (w : World) (h : IsWhole w) (c m : ℕ) (leaves : get w.leaving c ≡ S
       sym (any_alike (λ (r : Reference). not r.dead && among r.place) (λ (d : Cwd). not d.dead && among d.place) cwd_reference (λ e. refl) (entries w.cwds))
       ∙ (any_joined (λ (r : Reference). not r.dead && among r.place) (open_references w) (map cwd_reference (entries w.cwds)) no_refs).1
 
-  open_apart : (k : ℕ × ℕ) (o : Open) → get w.opens k ≡ Some o → o.dead ≡ false → among o.place ≡ false
+  pub open_apart : (k : ℕ × ℕ) (o : Open) → get w.opens k ≡ Some o → o.dead ≡ false → among o.place ≡ false
   open_apart k o at alive = not_so (among o.place) (λ is.
       no_way (sym no_opens ∙ value_any pair_cmp (λ (o : Open). not o.dead && among o.place) w.opens k o at (both_of (not o.dead) (among o.place) (ap not alive) is)))
 
-  cwd_apart : (c : ℕ) (d : Cwd) → get w.cwds c ≡ Some d → d.dead ≡ false → among d.place ≡ false
+  pub cwd_apart : (c : ℕ) (d : Cwd) → get w.cwds c ≡ Some d → d.dead ≡ false → among d.place ≡ false
   cwd_apart c d at alive = not_so (among d.place) (λ is.
       no_way (sym no_cwds ∙ value_any nat_cmp (λ (d : Cwd). not d.dead && among d.place) w.cwds c d at (both_of (not d.dead) (among d.place) (ap not alive) is)))
 
-  head_apart : (n : ℕ) → is_of w.mounts m n ≡ false → n ≡ m → ⊥
-  head_apart n apart is = no_way (sym apart ∙ or_first (n == m) (stands_on w.mounts n m) (eq-eqb n m is))
+  module _ (h : IsWhole w) (c : ℕ) (leaves : get w.leaving c ≡ Some m) where
+    head_apart : (n : ℕ) → is_of w.mounts m n ≡ false → n ≡ m → ⊥
+    head_apart n apart is = no_way (sym apart ∙ or_first (n == m) (stands_on w.mounts n m) (eq-eqb n m is))
 
-  below_apart : (n l : ℕ) → lower_mount (kind_in (facts_of w) n) ≡ Some l → is_of w.mounts m n ≡ false → is_of w.mounts m l ≡ false
-  below_apart n l e apart = not_so (is_of w.mounts m l) (λ is. no_way (sym apart ∙ of_lower w h m n l e is))
+    below_apart : (n l : ℕ) → lower_mount (kind_in (facts_of w) n) ≡ Some l → is_of w.mounts m n ≡ false → is_of w.mounts m l ≡ false
+    below_apart n l e apart = not_so (is_of w.mounts m l) (λ is. no_way (sym apart ∙ of_lower w h m n l e is))
 
-  among_not : (p : Seen) → IsOver (facts_of w) p → among p ≡ false → NamesNot m p
-  among_not (Mem n i) over apart = head_apart n apart
-  among_not (Null n p) over apart = (head_apart n apart, among_not p over.1 (below_apart n (mount_of p) over.0 apart))
-  among_not (UnionUp n i) over apart = head_apart n apart
-  among_not (UnionLow n u a p) over apart = (head_apart n apart, among_not p over.1 (below_apart n (mount_of p) over.0 apart))
+    among_not : (p : Seen) → IsOver (facts_of w) p → among p ≡ false → NamesNot m p
+    among_not (Mem n i) over apart = head_apart n apart
+    among_not (Null n p) over apart = (head_apart n apart, among_not p over.1 (below_apart n (mount_of p) over.0 apart))
+    among_not (UnionUp n i) over apart = head_apart n apart
+    among_not (UnionLow n u a p) over apart = (head_apart n apart, among_not p over.1 (below_apart n (mount_of p) over.0 apart))
 
-  live_opens_not : (k : ℕ × ℕ) (o : Option Open) → get w.opens k ≡ o → IfSome o (λ o. o.dead ≡ false → IsOver (facts_of w) o.place) → IfSome o (λ o. o.dead ≡ false → NamesNot m o.place)
-  live_opens_not k (Some o) at over = λ alive. among_not o.place (over alive) (open_apart k o at alive)
-  live_opens_not k None at over = tt
+    live_opens_not : (k : ℕ × ℕ) (o : Option Open) → get w.opens k ≡ o → IfSome o (λ o. o.dead ≡ false → IsOver (facts_of w) o.place) → IfSome o (λ o. o.dead ≡ false → NamesNot m o.place)
+    live_opens_not k (Some o) at over = λ alive. among_not o.place (over alive) (open_apart k o at alive)
+    live_opens_not k None at over = tt
 
-  live_cwds_not : (c : ℕ) (o : Option Cwd) → get w.cwds c ≡ o → IfSome o (λ d. d.dead ≡ false → IsOver (facts_of w) d.place × (is_dir (facts_of w) d.place ≡ true)) → IfSome o (λ d. d.dead ≡ false → NamesNot m d.place)
-  live_cwds_not c (Some d) at over = λ alive. among_not d.place (over alive).0 (cwd_apart c d at alive)
-  live_cwds_not c None at over = tt
+    live_cwds_not : (c : ℕ) (o : Option Cwd) → get w.cwds c ≡ o → IfSome o (λ d. d.dead ≡ false → IsOver (facts_of w) d.place × (is_dir (facts_of w) d.place ≡ true)) → IfSome o (λ d. d.dead ≡ false → NamesNot m d.place)
+    live_cwds_not c (Some d) at over = λ alive. among_not d.place (over alive).0 (cwd_apart c d at alive)
+    live_cwds_not c None at over = tt
 
-  -- the mount is cut, or gone already
-  left_so : (m < w.next_mount) × IfSome (get w.mounts m) (λ t. t.cut ≡ true)
-  left_so = subst (λ o. IfSome o (λ m. (m < w.next_mount) × IfSome (get w.mounts m) (λ t. t.cut ≡ true))) leaves (h.lasts.left c)
+    -- the mount is cut, or gone already
+    left_so : (m < w.next_mount) × IfSome (get w.mounts m) (λ t. t.cut ≡ true)
+    left_so = subst (λ o. IfSome o (λ m. (m < w.next_mount) × IfSome (get w.mounts m) (λ t. t.cut ≡ true))) leaves (h.lasts.left c)
 
-  cut_or_gone : (n : ℕ) (o : Option Mount) → get w.mounts m ≡ o → IfSome o (λ t. t.cut ≡ true) → is_cut (facts_of w) n ≡ false → IsSome (get w.mounts n) → n ≡ m → ⊥
-  cut_or_gone n (Some t) at cut uncut there is = no_way (sym uncut ∙ ap (λ x. cut_by (get w.mounts x)) is ∙ ap cut_by at ∙ cut)
-  cut_or_gone n None at cut uncut there is = no_way (sym (ap is_some at) ∙ ap (λ x. is_some (get w.mounts x)) (sym is) ∙ there)
+    cut_or_gone : (n : ℕ) (o : Option Mount) → get w.mounts m ≡ o → IfSome o (λ t. t.cut ≡ true) → is_cut (facts_of w) n ≡ false → IsSome (get w.mounts n) → n ≡ m → ⊥
+    cut_or_gone n (Some t) at cut uncut there is = no_way (sym uncut ∙ ap (λ x. cut_by (get w.mounts x)) is ∙ ap cut_by at ∙ cut)
+    cut_or_gone n None at cut uncut there is = no_way (sym (ap is_some at) ∙ ap (λ x. is_some (get w.mounts x)) (sym is) ∙ there)
 
-  other_than : (n : ℕ) → is_cut (facts_of w) n ≡ false → IsSome (get w.mounts n) → n ≡ m → ⊥
-  other_than n uncut there = cut_or_gone n (get w.mounts m) refl left_so.1 uncut there
+    other_than : (n : ℕ) → is_cut (facts_of w) n ≡ false → IsSome (get w.mounts n) → n ≡ m → ⊥
+    other_than n uncut there = cut_or_gone n (get w.mounts m) refl left_so.1 uncut there
 
-  first_other : m ≡ 0 → ⊥
-  first_other e = other_than 0 h.lasts.first (mount_there (get w.mounts 0) (ap is_some h.sound.view.root)) (sym e)
+    first_other : m ≡ 0 → ⊥
+    first_other e = other_than 0 h.lasts.first (mount_there (get w.mounts 0) (ap is_some h.sound.view.root)) (sym e)
 
-  named_not : (p : Seen) → names_mounts (facts_of w) p ≡ true → IsUncut (facts_of w) p → NamesNot m p
-  named_not (Mem n i) x cut = other_than n cut (mount_there (get w.mounts n) (mem_there (kind_in (facts_of w) n) x))
-  named_not (Null n p) x cut = (
-    other_than n cut.0 (mount_there (get w.mounts n) (null_there (kind_in (facts_of w) n) (first_of (is_null (kind_in (facts_of w) n)) (names_mounts (facts_of w) p) x))),
-    named_not p (second_of (is_null (kind_in (facts_of w) n)) (names_mounts (facts_of w) p) x) cut.1,
-  )
-  named_not (UnionUp n i) x cut = other_than n cut (mount_there (get w.mounts n) (union_there (kind_in (facts_of w) n) x))
-  named_not (UnionLow n u a p) x cut = (
-    other_than n cut.0 (mount_there (get w.mounts n) (union_there (kind_in (facts_of w) n) (first_of (is_union (kind_in (facts_of w) n)) (names_mounts (facts_of w) p) x))),
-    named_not p (second_of (is_union (kind_in (facts_of w) n)) (names_mounts (facts_of w) p) x) cut.1,
-  )
+    named_not : (p : Seen) → names_mounts (facts_of w) p ≡ true → IsUncut (facts_of w) p → NamesNot m p
+    named_not (Mem n i) x cut = other_than n cut (mount_there (get w.mounts n) (mem_there (kind_in (facts_of w) n) x))
+    named_not (Null n p) x cut = (
+      other_than n cut.0 (mount_there (get w.mounts n) (null_there (kind_in (facts_of w) n) (first_of (is_null (kind_in (facts_of w) n)) (names_mounts (facts_of w) p) x))),
+      named_not p (second_of (is_null (kind_in (facts_of w) n)) (names_mounts (facts_of w) p) x) cut.1,
+    )
+    named_not (UnionUp n i) x cut = other_than n cut (mount_there (get w.mounts n) (union_there (kind_in (facts_of w) n) x))
+    named_not (UnionLow n u a p) x cut = (
+      other_than n cut.0 (mount_there (get w.mounts n) (union_there (kind_in (facts_of w) n) (first_of (is_union (kind_in (facts_of w) n)) (names_mounts (facts_of w) p) x))),
+      named_not p (second_of (is_union (kind_in (facts_of w) n)) (names_mounts (facts_of w) p) x) cut.1,
+    )
 
-  uncut_not : (p : Seen) → IsSoundDir (facts_of w) p → IsUncut (facts_of w) p → NamesNot m p
-  uncut_not p x cut = named_not p x.place.mounts cut
+    uncut_not : (p : Seen) → IsSoundDir (facts_of w) p → IsUncut (facts_of w) p → NamesNot m p
+    uncut_not p x cut = named_not p x.place.mounts cut
 
-  cut_mounts_not : (n : ℕ) → IfSome (get w.mounts n) (λ t. t.cut ≡ false → EachPlace (NamesNot m) t)
-  cut_mounts_not n =
-      if_both (λ t. t.cut ≡ false → EachPlace (IsSoundDir (facts_of w)) t) (λ t. t.cut ≡ false → EachPlace (IsUncut (facts_of w)) t) (λ t. t.cut ≡ false → EachPlace (NamesNot m) t)
-      (λ t x y cut. and_places (IsSoundDir (facts_of w)) (IsUncut (facts_of w)) (NamesNot m) uncut_not t (x cut) (y cut)) (get w.mounts n) (h.sound.view.places n) (h.lasts.uncut n)
+    cut_mounts_not : (n : ℕ) → IfSome (get w.mounts n) (λ t. t.cut ≡ false → EachPlace (NamesNot m) t)
+    cut_mounts_not n =
+        if_both (λ t. t.cut ≡ false → EachPlace (IsSoundDir (facts_of w)) t) (λ t. t.cut ≡ false → EachPlace (IsUncut (facts_of w)) t) (λ t. t.cut ≡ false → EachPlace (NamesNot m) t)
+        (λ t x y cut. and_places (IsSoundDir (facts_of w)) (IsUncut (facts_of w)) (NamesNot m) uncut_not t (x cut) (y cut)) (get w.mounts n) (h.sound.view.places n) (h.lasts.uncut n)
 
-  -- ---- who is leaving then
+    -- ---- who is leaving then
 
-  abbrev leaving : FinMap nat_cmp ℕ
-  leaving = remove w.leaving c
+    abbrev leaving : FinMap nat_cmp ℕ
+    leaving = remove w.leaving c
 
-  left_gone : (P : ℕ → Type 0) (b : Bool) (o : Option ℕ) → IfSome o P → IfSome (cond b None o) P
-  left_gone P true o x = tt
-  left_gone P false o x = x
+    left_gone : (P : ℕ → Type 0) (b : Bool) (o : Option ℕ) → IfSome o P → IfSome (cond b None o) P
+    left_gone P true o x = tt
+    left_gone P false o x = x
 
-  fewer_left : (d : ℕ) (Q : ℕ → Type 0) → IfSome (get w.leaving d) Q → IfSome (get leaving d) Q
-  fewer_left d Q x = subst (λ o. IfSome o Q) (sym (get-remove nat_cmp_total w.leaving c d)) (left_gone Q (eq_by_cmp nat_cmp d c) (get w.leaving d) x)
+    fewer_left : (d : ℕ) (Q : ℕ → Type 0) → IfSome (get w.leaving d) Q → IfSome (get leaving d) Q
+    fewer_left d Q x = subst (λ o. IfSome o Q) (sym (get-remove nat_cmp_total w.leaving c d)) (left_gone Q (eq_by_cmp nat_cmp d c) (get w.leaving d) x)
 
-  still_there : (d v : ℕ) → get w.leaving d ≡ Some v → (v ≡ m → ⊥) → get leaving d ≡ Some v
-  still_there d v at ne = get-remove nat_cmp_total w.leaving c d ∙ (elim (eq_by_cmp nat_cmp d c) as (λ b. eq_by_cmp nat_cmp d c ≡ b → cond b None (get w.leaving d) ≡ Some v) [
-    | true ↦ λ e. absurd (ne (ap number_or (sym at ∙ ap (get w.leaving) (exact_unsigned d c (equal _ e)) ∙ leaves)))
-    | false ↦ λ _. at
-  ] refl)
+    still_there : (d v : ℕ) → get w.leaving d ≡ Some v → (v ≡ m → ⊥) → get leaving d ≡ Some v
+    still_there d v at ne = get-remove nat_cmp_total w.leaving c d ∙ (elim (eq_by_cmp nat_cmp d c) as (λ b. eq_by_cmp nat_cmp d c ≡ b → cond b None (get w.leaving d) ≡ Some v) [
+      | true ↦ λ e. absurd (ne (ap number_or (sym at ∙ ap (get w.leaving) (exact_unsigned d c (equal _ e)) ∙ leaves)))
+      | false ↦ λ _. at
+    ] refl)
 
-  still_left : (n : ℕ) → (n ≡ m → ⊥) → is_left w.leaving n ≡ true → is_left leaving n ≡ true
-  still_left n ne is =
-      let x = any_value nat_cmp nat_cmp_total (λ k. k == n) w.leaving is in
-      value_any nat_cmp (λ k. k == n) leaving x.key x.value (still_there x.key x.value x.at (λ e. ne (sym (eqb-true x.value n x.passes) ∙ e))) x.passes
+    still_left : (n : ℕ) → (n ≡ m → ⊥) → is_left w.leaving n ≡ true → is_left leaving n ≡ true
+    still_left n ne is =
+        let x = any_value nat_cmp nat_cmp_total (λ k. k == n) w.leaving is in
+        value_any nat_cmp (λ k. k == n) leaving x.key x.value (still_there x.key x.value x.at (λ e. ne (sym (eqb-true x.value n x.passes) ∙ e))) x.passes
 
-  pub whole-left : IsWhole (rows.left w c m)
-  whole-left =
-      whole-gone w h m leaving first_other (λ k. live_opens_not k (get w.opens k) refl (h.lasts.opens k)) (λ d. live_cwds_not d (get w.cwds d) refl (h.lasts.cwds d)) cut_mounts_not still_left fewer_left
+    pub whole-left : IsWhole (rows.left w c m)
+    whole-left =
+        whole-gone w h m leaving first_other (λ k. live_opens_not k (get w.opens k) refl (h.lasts.opens k)) (λ d. live_cwds_not d (get w.cwds d) refl (h.lasts.cwds d)) cut_mounts_not still_left fewer_left
 
 whole-doom_next : (w : World) → IsWhole w → (c m : ℕ) → get w.leaving c ≡ Some m → (o : Option Ref) → first_in w m ≡ o → Keeps (LeavesSo IsWhole) AnyNeed (rows.doom_next w c m o)
 whole-doom_next w h c m leaves (Some at) is = needed tt
-whole-doom_next w h c m leaves None is = found_so (whole-left w h c m leaves is)
+whole-doom_next w h c m leaves None is = found_so (whole-left w m is h c leaves)
 
 whole-detach_first : (w : World) (a : Found) → FreeFound (facts_of w) a → Keeps (LeavesSo IsWhole) AnyNeed (rows.detach_first w a)
 whole-detach_first w a fa =

@@ -94,22 +94,37 @@ abbrev need_or : Applied → Inner → Inner
 need_or (Needs x) y = x
 need_or (Finished w r) y = y
 
-row_needs : (w : World) (o : Outcome) (x : Inner) → settle w o ≡ Needs x → o ≡ Wants x
+pub row_needs : (w : World) (o : Outcome) (x : Inner) → settle w o ≡ Needs x → o ≡ Wants x
 row_needs w (Go y) x e = absurd cc
 row_needs w (Refuse y) x e = absurd cc
 row_needs w (Wants y) x e = ap Wants (ap (λ a. need_or a y) e)
 
-whole-entry : (w : World) (c : ℕ) (o : Option Call) (x : Inner) → IsNeeded w c o x → IsWhole w → IsWhole (effect w c x)
-whole-entry w c (Some call) x needs h = whole-needed w c call x (row_needs w (row w c call) x needs) h
-whole-entry w c None x needs h = absurd needs
+-- a call that needs the entry
+pub record IsNext (w : World) (c : ℕ) (x : Inner) : Type 0 where
+  pub call : Call
+  pub needs : row w c call ≡ Wants x
+
+pub next_is : (w : World) (c : ℕ) (o : Option Call) (x : Inner) → IsNeeded w c o x → IsNext w c x
+next_is w c (Some call) x needs = record { call = call; needs = row_needs w (row w c call) x needs }
+next_is w c None x needs = absurd needs
+
+pub whole-entry : (w : World) (c : ℕ) (o : Option Call) (x : Inner) → IsNeeded w c o x → IsWhole w → IsWhole (effect w c x)
+whole-entry w c o x needs h = let next = next_is w c o x needs in whole-needed w c next.call x next.needs h
+
+-- what calls and needed entries keep, histories keep
+module _ (A : World → Type 0) (call : (w : World) → IsWhole w → A w → (c : ℕ) (r : Reply) (x : Call) → A (after w (entry.Call c x r)))
+    (inner : (w : World) → IsWhole w → A w → (c : ℕ) (x : Call) (i : Inner) → row w c x ≡ Wants i → A (effect w c i)) where
+  pub kept-history : (p : Pending) (doomers : List ℕ) (w : World) (es : List Entry) → IsLegalFrom p doomers w es → IsWhole w → A w → A (replay w es)
+  kept-history p doomers w [] legal h here = here
+  kept-history p doomers w (entry.Call c x r ∷ es) legal h here =
+      kept-history p (doomers_after doomers (entry.Call c x r)) (after w (entry.Call c x r)) es legal.1 (whole-call w c r h x) (call w h here c r x)
+  kept-history p doomers w (entry.Inner c x ∷ es) legal h here =
+      let next = next_is w c (next_call p c es) x legal.0 in
+      kept-history p (doomers_after doomers (entry.Inner c x)) (effect w c x) es legal.1 (whole-needed w c next.call x next.needs h) (inner w h here c next.call x next.needs)
 
 -- a legal history leaves a sound world that lasts
 pub whole-history : (p : Pending) (doomers : List ℕ) (w : World) (es : List Entry) → IsLegalFrom p doomers w es → IsWhole w → IsWhole (replay w es)
-whole-history p doomers w [] legal h = h
-whole-history p doomers w (entry.Call c call r ∷ es) legal h =
-    whole-history p (doomers_after doomers (entry.Call c call r)) (after w (entry.Call c call r)) es legal.1 (whole-call w c r h call)
-whole-history p doomers w (entry.Inner c x ∷ es) legal h =
-    whole-history p (doomers_after doomers (entry.Inner c x)) (effect w c x) es legal.1 (whole-entry w c (next_call p c es) x legal.0 h)
+whole-history p doomers w es legal h = kept-history IsWhole (λ w h _ c r x. whole-call w c r h x) (λ w h _ c x i needs. whole-needed w c x i needs h) p doomers w es legal h h
 
 pub sound_history : (p : Pending) (w : World) (es : List Entry) → IsLegal p w es → IsSound w → IsLasting w → IsSound (replay w es)
 sound_history p w es legal s l = (whole-history p [] w es legal (record { sound = s; lasts = l })).sound

@@ -1,3 +1,4 @@
+// How many edits of names and mounts an entry makes.
 ghost use Rattle.std.specs.Prelude.{◌≡◌, ◌≤◌, List, ◌++◌, length};
 ghost use Rattle.vfs_tree.specs.Facts.{Facts};
 ghost use Rattle.vfs_tree.specs.declared.world.World.{World};

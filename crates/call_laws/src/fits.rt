@@ -1,3 +1,4 @@
+// What a row answers and needs: how many references live on, who is leaving a mount, and what comes first.
 ghost use Rattle.std.specs.Prelude.{◌≡◌, ℕ, Some};
 ghost use Rattle.std.specs.FinMap.{get};
 ghost use Rattle.vfs_tree.specs.declared.world.World.{World};

@@ -1,3 +1,4 @@
+// What every entry keeps of a world: all but stores and nodes.
 ghost use Rattle.std.specs.Prelude.{◌≡◌, ℕ, if◌then◌else◌, None, option_map};
 ghost use Rattle.std.specs.FinMap.{contains_key, get};
 ghost use Rattle.vfs_tree.specs.declared.node.Store.{Store};

@@ -1,3 +1,4 @@
+// Worlds that last: calls, what they need, and legal histories leave sound worlds, in which later entries do too.
 ghost use Rattle.std.specs.Prelude.{◌≡◌, ℕ, List};
 ghost use Rattle.vfs_tree.specs.Sound.{IsSound};
 ghost use Rattle.vfs_tree.specs.Start.{start_world};

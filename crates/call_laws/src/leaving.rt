@@ -1,3 +1,4 @@
+// Who is leaving a mount: only a detachment changes it, for its own caller.
 ghost use Rattle.std.specs.Prelude.{◌≡◌, ◌==◌, ℕ, IsSome, List, false};
 ghost use Rattle.std.specs.FinMap.{get};
 ghost use Rattle.vfs_tree.specs.declared.world.World.{World};

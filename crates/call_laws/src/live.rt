@@ -1,3 +1,4 @@
+// How many references live: a doom leaves fewer, and no inner entry adds one.
 ghost use Rattle.std.specs.Prelude.{◌≡◌, ◌≤◌, ◌<◌, ℕ, List};
 ghost use Rattle.vfs_tree.specs.declared.world.World.{World};
 ghost use Rattle.call_model.specs.Effects.{doomed, effect};

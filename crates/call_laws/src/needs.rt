@@ -1,3 +1,4 @@
+// What a walk needs: a shadow directory at a free name.
 ghost use Rattle.std.specs.Prelude.{◌≡◌, ℕ, Option};
 ghost use Rattle.vfs_tree.specs.Views.{facts_of};
 ghost use Rattle.vfs_tree.specs.declared.walk.Found.TheVariants as found;

@@ -1,3 +1,4 @@
+// The places that paths find are sound, so a change of the current directory keeps a world sound.
 ghost use Rattle.std.specs.Prelude.{◌≡◌, ℕ, List, Option, Some, None, IsSome};
 ghost use Rattle.std.specs.FinMap.{get};
 ghost use Rattle.vfs_tree.specs.Place.{Seen};

@@ -1,3 +1,4 @@
+// Legal histories one after the other are one legal history, and the other way round.
 ghost use Rattle.std.specs.Prelude.{◌≡◌, ℕ, List, [], ◌++◌};
 ghost use Rattle.std.specs.FinMap.{get};
 ghost use Rattle.vfs_tree.specs.declared.world.World.{World};

@@ -1,3 +1,4 @@
+// A call that fails changes nothing, and nothing but a doom makes a reference dead.
 ghost use Rattle.std.specs.Prelude.{◌≡◌, ℕ, List, true};
 ghost use Rattle.vfs_tree.specs.declared.errno.Errno.{Errno};
 ghost use Rattle.vfs_tree.specs.declared.world.World.{World};

@@ -1,3 +1,4 @@
+// A revoke: whose walk finds a file, which open file it dooms next, and that its walk stays the same.
 ghost use Rattle.std.specs.Prelude.{◌≡◌, ℕ, List, Some};
 ghost use Rattle.vfs_tree.specs.Layers.{base};
 ghost use Rattle.vfs_tree.specs.Place.{Seen};

@@ -1,3 +1,4 @@
+// What a directory shows is what walks find, but for the shadow directories that a walk waits for.
 ghost use Rattle.std.specs.Prelude.{◌≡◌, ℕ, List};
 ghost use Rattle.vfs_tree.specs.Child.{child_of};
 ghost use Rattle.vfs_tree.specs.Facts.{Facts};

@@ -1,3 +1,4 @@
+// Worlds are sound: at the start, after inner entries, and after calls that change no name, mount or node.
 ghost use Rattle.std.specs.Prelude.{◌≡◌, ℕ, List, None};
 ghost use Rattle.std.specs.FinMap.{get};
 ghost use Rattle.vfs_tree.specs.Nodes.{IsNumbered};

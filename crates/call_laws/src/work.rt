@@ -1,3 +1,4 @@
+// An inner entry that a call may need lowers the work that is left.
 ghost use Rattle.std.specs.Prelude.{◌≤◌, ◌<◌, ℕ};
 ghost use Rattle.vfs_tree.specs.declared.limits.Limits.{Limits};
 ghost use Rattle.vfs_tree.specs.declared.world.World.{World};

@@ -21,8 +21,8 @@ use Rattle.call_laws.proofs.MountParts.{done_so}
 use Rattle.call_laws.proofs.NamedLaws.{no_way}
 use Rattle.call_laws.proofs.Parts.{Keeps, found_so, refused, needed, then, unless}
 use Rattle.call_laws.proofs.SoundRows.{LeavesSo, AnyNeed}
-use Rattle.model_laws.specs.Telling.{Tells}
 use Rattle.model_laws.proofs.Leaving.{in-row}
+use Rattle.edit_laws.specs.Telling.{Tells}
 
 -- ---- what paths found
 

@@ -45,7 +45,7 @@ use Rattle.call_laws.proofs.SoundRows.{LeavesSo, AnyNeed}
 use Rattle.call_laws.proofs.WalkLaws.{stands_at, IsTarget, FoundWell}
 use Rattle.call_laws.proofs.Whole.{IsWhole}
 use Rattle.call_laws.proofs.WholeLaws.{IsWell, well_store}
-use Rattle.model_laws.specs.Telling.{Tells}
+use Rattle.edit_laws.specs.Telling.{Tells}
 use Rattle.edit_laws.proofs.Answering.{found_in, found_there, Shows, told}
 use Rattle.edit_laws.proofs.NameViews.{IsOnly, dropped, drop_view, bared_by, empty_view}
 use Rattle.edit_laws.proofs.Only.{IsBare, not_root, only_one, only_emptied, bared_file, set_bared}

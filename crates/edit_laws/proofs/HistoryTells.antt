@@ -15,8 +15,7 @@ use Rattle.vfs_tree.specs.declared.walk.Step.TheVariants.{Go, Refuse, Wants}
 use Rattle.vfs_tree.specs.declared.world.World.{World}
 use Rattle.call_model.specs.Apply.{Applied, Finished, Needs, settle, apply}
 use Rattle.call_model.specs.Checks.{Outcome, mount_at, dir_at}
-use Rattle.call_model.specs.Effects.{effect}
-use Rattle.call_model.specs.Legal.{Pending, MayLackMemory, IsNeeded, IsRight, IsLegal, IsLegalFrom, after, doomers_after, doomers_in, is_no_memory, next_call, replay, world_after}
+use Rattle.call_model.specs.Legal.{Pending, MayLackMemory, IsRight, IsLegal, IsLegalFrom, after, doomers_after, doomers_in, is_no_memory, next_call, replay, world_after}
 use Rattle.call_model.specs.MountRows as rows
 use Rattle.call_model.specs.NameEdits.{edited_by, edits, edits_of, is_fail}
 use Rattle.call_model.specs.Refs.{first_in}
@@ -36,7 +35,6 @@ use Rattle.call_laws.specs.Lasting.{IsLasting}
 use Rattle.call_laws.specs.Prefixes.{pending_before}
 use Rattle.call_laws.proofs.MountParts.{done_so}
 use Rattle.call_laws.proofs.NamedLaws.{no_way}
-use Rattle.call_laws.proofs.NeededLaws.{whole-needed}
 use Rattle.call_laws.proofs.Parts.{Keeps, found_so, needed, unless}
 use Rattle.call_laws.proofs.PlaceLaws.{well_at, lasting-start}
 use Rattle.call_laws.proofs.PrefixLaws.{legal-before, legal-after}
@@ -45,12 +43,12 @@ use Rattle.call_laws.proofs.SoundLaws.{sound-start}
 use Rattle.call_laws.proofs.SoundRows.{AnyNeed}
 use Rattle.call_laws.proofs.WalkLaws.{FoundWell}
 use Rattle.call_laws.proofs.Whole.{IsWhole}
-use Rattle.call_laws.proofs.WorldLaws.{whole-call, whole-history}
-use Rattle.model_laws.specs.Telling.{Tells, AllTell}
-use Rattle.model_laws.proofs.AddLaws.{null_tells, union_tells}
-use Rattle.model_laws.proofs.FoldLaws.{told_history, told_none, quiet_tells, chdir_tells, failed_tells, doom_tells, detach_tells, umount_tells, force_tells}
+use Rattle.call_laws.proofs.WorldLaws.{whole-call, next_is, whole-entry, whole-history}
 use Rattle.model_laws.proofs.Leaving.{past, in-row}
-use Rattle.model_laws.proofs.MemLaws.{mem_tells}
+use Rattle.edit_laws.specs.Telling.{Tells, AllTell}
+use Rattle.edit_laws.proofs.AddLaws.{null_tells, union_tells}
+use Rattle.edit_laws.proofs.FoldLaws.{told_history, told_none, quiet_tells, chdir_tells, failed_tells, doom_tells, detach_tells, umount_tells, force_tells}
+use Rattle.edit_laws.proofs.MemLaws.{mem_tells}
 use Rattle.edit_laws.proofs.Answering.{told}
 use Rattle.edit_laws.proofs.DropTells.{unlink_shows, rmdir_shows, undelete_shows}
 use Rattle.edit_laws.proofs.MadeTells.{mkdir_shows, symlink_shows, open_file_shows, shadow_tells, copy_tells}
@@ -178,38 +176,21 @@ module _ (w : World) (ds : List ℕ) (c : ℕ) (x : Call) (h : IsWhole w) where
 
 -- ---- inner entries
 
-abbrev need_or : Applied → Inner → Inner
-need_or (Needs x) y = x
-need_or (Finished w r) y = y
-
-row_needs : (w : World) (o : Outcome) (x : Inner) → settle w o ≡ Needs x → o ≡ Wants x
-row_needs w (Go y) x e = absurd cc
-row_needs w (Refuse y) x e = absurd cc
-row_needs w (Wants y) x e = ap Wants (ap (λ a. need_or a y) e)
-
 needed_tells : (w : World) (c : ℕ) (call : Call) (x : Inner) → row w c call ≡ Wants x → IsWhole w → Tells w (entry.Inner c x)
 needed_tells w c call (Shadow m u n) needs h = shadow_tells w c m u n call h.sound h.lasts needs
 needed_tells w c call (CopyUp m u n) needs h = copy_tells w c m u n call h.sound h.lasts needs
 needed_tells w c call (Detach m) needs h = let may : MayNeed w c call (Detach m) = subst (Fits w c call) needs (row_fits w c call) in detach_tells w c m h.sound h.lasts may.0
 needed_tells w c call (Doom at) needs h = doom_tells w c at
 
-inner_tells : (w : World) (c : ℕ) (o : Option Call) (x : Inner) → IsNeeded w c o x → IsWhole w → Tells w (entry.Inner c x)
-inner_tells w c (Some call) x needs h = needed_tells w c call x (row_needs w (row w c call) x needs) h
-inner_tells w c None x needs h = absurd needs
-
-inner_whole : (w : World) (c : ℕ) (o : Option Call) (x : Inner) → IsNeeded w c o x → IsWhole w → IsWhole (effect w c x)
-inner_whole w c (Some call) x needs h = whole-needed w c call x (row_needs w (row w c call) x needs) h
-inner_whole w c None x needs h = absurd needs
-
 -- ---- histories
 
 right_tells : (p : Pending) (ds : List ℕ) (w : World) (e : Entry) (es : List Entry) → IsRight p ds w e es → IsWhole w → Tells w e
 right_tells p ds w (entry.Call c x r) es right h = call_tells w ds c x h r right
-right_tells p ds w (entry.Inner c x) es right h = inner_tells w c (next_call p c es) x right h
+right_tells p ds w (entry.Inner c x) es right h = let next = next_is w c (next_call p c es) x right in needed_tells w c next.call x next.needs h
 
 pub right_whole : (p : Pending) (ds : List ℕ) (w : World) (e : Entry) (es : List Entry) → IsRight p ds w e es → IsWhole w → IsWhole (after w e)
 right_whole p ds w (entry.Call c x r) es right h = whole-call w c r h x
-right_whole p ds w (entry.Inner c x) es right h = inner_whole w c (next_call p c es) x right h
+right_whole p ds w (entry.Inner c x) es right h = whole-entry w c (next_call p c es) x right h
 
 all_tell : (p : Pending) (ds : List ℕ) (w : World) (es : List Entry) → IsLegalFrom p ds w es → IsWhole w → AllTell w es
 all_tell p ds w [] legal h = tt

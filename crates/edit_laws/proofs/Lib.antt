@@ -9,5 +9,8 @@ pub mod MadeTells
 pub mod DropTells
 pub mod MoveTells
 pub mod HistoryTells
-pub mod KeptNodes
-pub mod OpenFiles
+pub mod ByteViews
+pub mod CoverLaws
+pub mod FoldLaws
+pub mod AddLaws
+pub mod MemLaws

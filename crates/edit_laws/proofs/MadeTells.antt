@@ -45,9 +45,9 @@ use Rattle.call_laws.proofs.RowLaws.{row_free}
 use Rattle.call_laws.proofs.SoundRows.{LeavesSo, AnyNeed}
 use Rattle.call_laws.proofs.WalkLaws.{IsTarget, FoundWell}
 use Rattle.call_laws.proofs.Whole.{IsWhole}
-use Rattle.model_laws.specs.Telling.{Tells}
-use Rattle.model_laws.proofs.ByteViews.{bytes_view}
 use Rattle.model_laws.proofs.Leaving.{past}
+use Rattle.edit_laws.specs.Telling.{Tells}
+use Rattle.edit_laws.proofs.ByteViews.{bytes_view}
 use Rattle.edit_laws.proofs.Answering.{found_free, Shows, told}
 use Rattle.edit_laws.proofs.MadeViews.{new_edit, made_world}
 

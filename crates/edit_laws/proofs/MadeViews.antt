@@ -1,25 +1,23 @@
 -- What a store shows after a node is made at one of its names.
-use Rattle.std.proofs.Common.{◌≡◌, ℕ, ◌+◌, ◌<◌, Bool, true, false, cond, ◌==◌, List, [], ◌∷◌, refl, ap, sym, ◌∙◌, subst, arith, eqb-true, eq-eqb}
+use Rattle.std.proofs.Common.{◌≡◌, ℕ, ◌+◌, Bool, true, false, cond, ◌==◌, List, [], ◌∷◌, refl, ap, sym, ◌∙◌, subst, eqb-true, eq-eqb}
 use Rattle.std.specs.Prelude.{Option, Some, None, IsSome, is_some, option_map, option_and_then}
 use Rattle.std.specs.Cmp.{nat_cmp_total}
-use Rattle.std.specs.FinMap.{get, insert, get-empty}
+use Rattle.std.specs.FinMap.{get, insert}
 use Rattle.std.proofs.lemmas.Map.Lookups.{exact_unsigned}
 use Rattle.finite_maps.proofs.EntryLaws.{by_key, get_at-insert}
 use Rattle.vfs_tree.specs.Edits.{made, with_made, with_store}
 use Rattle.vfs_tree.specs.Layers.{linked_by, parent_by, is_linked}
-use Rattle.vfs_tree.specs.Name.{name_cmp}
-use Rattle.vfs_tree.specs.Nodes.{Names, entry_in, is_given, AreBelow, next_of}
+use Rattle.vfs_tree.specs.Nodes.{entry_in, is_given, AreBelow, next_of}
 use Rattle.vfs_tree.specs.StoreEdits.{entry_of}
 use Rattle.vfs_tree.specs.Views.{kind_of_node, target_in, is_linked_in, dir_in, dir_name, facts_of}
 use Rattle.vfs_tree.specs.declared.node.Kind.TheVariants as kind
-use Rattle.vfs_tree.specs.declared.node.NameEntry.{NameEntry}
 use Rattle.vfs_tree.specs.declared.node.NameEntry.TheVariants.{Ino}
 use Rattle.vfs_tree.specs.declared.node.Node.{Node}
 use Rattle.vfs_tree.specs.declared.node.Node.TheVariants.{Dir, File, Link}
 use Rattle.vfs_tree.specs.declared.node.Store.{Store}
 use Rattle.vfs_tree.specs.declared.world.World.{World}
 use Rattle.call_model.specs.NameEdits.{Edit, SetName, NewDir, NewFile, NewLink, edited_by}
-use Rattle.call_laws.proofs.MadeLaws.{IsFresh, kind_at, linked_dir, none_some}
+use Rattle.call_laws.proofs.MadeLaws.{IsFresh, kind_at, linked_dir, none_some, fresh_names, no_node}
 use Rattle.call_laws.proofs.NameLaws.{entry_is, link_is}
 use Rattle.call_laws.proofs.NamedLaws.{no_way}
 use Rattle.call_laws.proofs.Whole.{IsWhole}
@@ -27,15 +25,6 @@ use Rattle.call_laws.proofs.WholeLaws.{IsWell, well_store}
 use Rattle.edit_laws.proofs.NameViews.{set_view}
 use Rattle.edit_laws.proofs.StoreViews.{view_in, same_parts, shown_after, set_entry_at, IsIn, edited_store}
 use Rattle.edit_laws.proofs.Touched.{known, dir_known, Same, NoName, unnamed, no_dir_name, same_dir, same_name}
-
-fresh_names : (u : ℕ) (node : Node) → IsFresh u node → (m : List ℕ) → entry_in m (Some node) ≡ None
-fresh_names u (Dir parent opaque names) h m = ap (λ (x : Names). get x m) h.1 ∙ get-empty {X = NameEntry} name_cmp m
-fresh_names u (File bytes) h m = refl
-fresh_names u (Link target) h m = refl
-
-no_node : (o : Option Node) (i : ℕ) → (IsSome o → i < i) → o ≡ None
-no_node None i h = refl
-no_node (Some x) i h = absurd (let less = h refl in omega (arith, less))
 
 -- the edit that makes a node
 abbrev pub new_edit : ℕ → ℕ → Node → Edit

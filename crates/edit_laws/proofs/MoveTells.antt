@@ -1,5 +1,5 @@
 -- The edits of calls that move and link names tell what they do.
-use Rattle.std.proofs.Common.{◌≡◌, ℕ, ◌⊎◌, inl, inr, Bool, true, false, cond, not, ◌&&◌, ◌||◌, ◌==◌, List, [], ◌∷◌, ◌++◌, refl, ap, sym, ◌∙◌, subst, eqb-true, eq-eqb}
+use Rattle.std.proofs.Common.{◌≡◌, ℕ, ◌⊎◌, inl, inr, Bool, true, false, cond, not, ◌||◌, ◌==◌, List, [], ◌∷◌, ◌++◌, refl, ap, sym, ◌∙◌, subst, eqb-true, eq-eqb}
 use Rattle.std.specs.Prelude.{Option, Some, None, is_some, option_map, option_and_then}
 use Rattle.std.specs.FinMap.{get, insert}
 use Rattle.vfs_tree.specs.Carriers.{is_in_union, is_busy, is_below, below_within}
@@ -44,12 +44,14 @@ use Rattle.call_laws.proofs.NameLaws.{view_of, linked_in, entry_is, file_in_stor
 use Rattle.call_laws.proofs.NamedLaws.{no_way}
 use Rattle.call_laws.proofs.Parts.{Keeps, MakesNode, found_so, refused, weaker, then, unless, ready_at, ready_child}
 use Rattle.call_laws.proofs.PlaceLaws.{well_at}
+use Rattle.call_laws.proofs.RenameLaws as renames
+use Rattle.call_laws.proofs.RenameLaws.{true_and}
 use Rattle.call_laws.proofs.SoundRows.{LeavesSo, AnyNeed}
 use Rattle.call_laws.proofs.WalkLaws.{IsTarget, FoundWell}
 use Rattle.call_laws.proofs.Whole.{IsWhole}
 use Rattle.call_laws.proofs.WholeLaws.{IsWell, well_store}
-use Rattle.model_laws.specs.Telling.{Tells}
 use Rattle.model_laws.proofs.Leaving.{any}
+use Rattle.edit_laws.specs.Telling.{Tells}
 use Rattle.edit_laws.proofs.Answering.{found_in, found_place, found_free, found_there, Shows, told}
 use Rattle.edit_laws.proofs.DropTells.{AreBare, only_of, clearing, bare_at, drop_in, drop_after, empty_so}
 use Rattle.edit_laws.proofs.NameViews.{IsOnly, hit_off, left, left_ino, dropped, drop_exact, drop_view, known_drop, bared_by, empty_view, set_view, moved_view}
@@ -268,10 +270,6 @@ fits_both : (w : World) (c : Bool) (o : Option Seen) → Fits w c o → (q : See
 fits_both w true o fits q is = inr ((fits q is).0, (fits q is).1 refl)
 fits_both w false o fits q is = inl (fits q is).0
 
-true_and : (a b : Bool) → a ≡ true → (a && b) ≡ false → b ≡ false
-true_and true b p q = q
-true_and false b p q = no_way p
-
 -- the edits where the two names don't stand for one place
 abbrev rename_edits_apart : World → Seen → List ℕ → Seen → Seen → List ℕ → Option Seen → List Edit
 rename_edits_apart w from old p to new q = drop_edit w from old ∷ set_edit w to new (Ino (node_id w p).ino) ∷ (move_edits w p to new ++ clear_edits w q)
@@ -297,10 +295,10 @@ module _ (w : World) (h : IsWhole w) (d source : Seen) (old : List ℕ) (new : T
   opaque = is_in_union new.dir
 
   one_store : bd.store ≡ bn.store
-  one_store = same_store f (view_of w h) d new.dir x.good y.good (dir_upper f d x.good.sound.files x.dir) (dir_upper f new.dir y.good.sound.files y.dir) mounts
+  one_store = renames.one_store w h d source old new x y mounts upper
 
   gives : Gives f bd old source
-  gives = (given_target f (view_of w h) d old (Some source) x).0 upper
+  gives = renames.gives w h d source old new x y mounts upper
 
   abbrev drop_it : Edit
   drop_it = cond white (SetName bd.store bd.ino old White) (ClearName bd.store bd.ino old)
@@ -310,16 +308,16 @@ module _ (w : World) (h : IsWhole w) (d source : Seen) (old : List ℕ) (new : T
 
   module _ (t : Store) (e : get w.stores bd.store ≡ Some t) (well : IsWell t) where
     there_too : get w.stores bn.store ≡ Some t
-    there_too = ap (get w.stores) (sym one_store) ∙ e
+    there_too = renames.there_too w h d source old new x y mounts upper t e well
 
     at_old : entry_of t bd.ino old ≡ Some (Ino bs.ino)
-    at_old = sym (entry_is w bd.store bd.ino old t e) ∙ gives.at
+    at_old = renames.at_old w h d source old new x y mounts upper t e well
 
     from_linked : linked_by (dir_in t bd.ino) ≡ true
-    from_linked = linked_in w d old (Some source) t x e
+    from_linked = renames.from_linked w h d source old new x y mounts upper t e well
 
     to_linked : linked_by (dir_in t bn.ino) ≡ true
-    to_linked = linked_in w new.dir new.name new.child t y there_too
+    to_linked = renames.to_linked w h d source old new x y mounts upper t e well
 
     same_dirs : f.dir bn.store ≡ dir_in t
     same_dirs = let dirs : Option Store → ℕ → Option DirFacts = λ o i. option_and_then (λ (t : Store). dir_in t i) o in ap dirs there_too

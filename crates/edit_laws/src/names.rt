@@ -1,3 +1,4 @@
+// The edits of calls that make, drop and move names, and of what they need, tell what they do.
 ghost use Rattle.std.specs.Prelude.{◌≡◌, ℕ, List};
 ghost use Rattle.vfs_tree.specs.Sound.{IsSound};
 ghost use Rattle.vfs_tree.specs.declared.walk.Step.TheVariants.{Wants};
@@ -11,7 +12,7 @@ ghost use Rattle.call_model.specs.declared.entry.Entry.TheVariants as entry;
 ghost use Rattle.call_model.specs.declared.entry.Inner.TheVariants.{CopyUp, Shadow};
 ghost use Rattle.call_model.specs.declared.reply.Reply.TheVariants as reply;
 ghost use Rattle.call_laws.specs.Lasting.{IsLasting};
-ghost use Rattle.model_laws.specs.Telling.{Tells};
+ghost use Rattle.edit_laws.specs.Telling.{Tells};
 
 /// The edits of calls that make nodes tell what they do to names and nodes: a law of the model, with no code.
 pub fn edits_of_made_nodes_tell()

@@ -1,4 +1,4 @@
--- What a call leaves of the open files, its caller's and those of others, and of the mounts.
+-- What a call leaves of the open files, its caller's and those of others, of others' current directories, and of the mounts.
 use Rattle.std.proofs.Common.{◌≡◌, ℕ, ℤ, ◌⊎◌, inl, inr, Bool, true, false, cond, not, ◌+◌, ◌==◌, List, [], ◌∷◌, length, refl, ap, sym, ◌∙◌, subst, eq-eqb, nat_cmp}
 use Rattle.std.specs.Prelude.{Option, Some, None, ◌&&◌, ◌+ℤ◌, pos, nat_lt, option_map}
 use Rattle.std.specs.Cmp.{nat_cmp_total}
@@ -76,21 +76,23 @@ pub record IsAdded (w : World) (m : ℕ) (o : Option Mount) : Type 0 where
 abbrev pub Grown : World → ℕ → Option Mount → Type 0
 Grown w m o = ((kind_by o ≡ None) ⊎ (kind_by o ≡ kind_in (facts_of w) m)) ⊎ IsAdded w m o
 
--- the open files of others are as they were, what stays open is as it was but for its offset, and mounts have grown so
+-- the open files and current directories of others are as they were, what stays open is as it was but for its offset, and
+-- mounts have grown so
 pub record Apart (c : ℕ) (w v : World) : Type 0 where
   pub opens : (k : ℕ × ℕ) → (k.0 == c) ≡ false → get v.opens k ≡ get w.opens k
   pub stays : (k : ℕ × ℕ) → StaysButOffset (get w.opens k) (get v.opens k)
   pub mounts : (m : ℕ) → Grown w m (get v.mounts m)
+  pub cwds : (d : ℕ) → (d == c) ≡ false → get v.cwds d ≡ get w.cwds d
 
--- ---- what changes neither
+-- ---- what changes none of them
 
--- the open files and the mounts are those of the world
+-- the open files, the mounts and the current directories are those of the world
 abbrev pub Same : World → World → Type 0
-Same w v = (v.opens ≡ w.opens) × (v.mounts ≡ w.mounts)
+Same w v = (v.opens ≡ w.opens) × (v.mounts ≡ w.mounts) × (v.cwds ≡ w.cwds)
 
 pub same-store : (g : Store → Store) (w : World) (s : ℕ) (o : Option Store) → Same w (with_store g w s o)
-same-store g w s (Some t) = (refl, refl)
-same-store g w s None = (refl, refl)
+same-store g w s (Some t) = (refl, refl, refl)
+same-store g w s None = (refl, refl, refl)
 
 edit : (w : World) (p : Seen) (change : Store → ℕ → Store) → Same w (edit_at w p change)
 edit w p change = let b = base (facts_of w) p in same-store (λ t. change t b.ino) w b.store _
@@ -129,14 +131,14 @@ symlink : (w : World) (text : List ℕ) (a : Found) → Leaves w (names.symlink 
 symlink w text a = past (names.check_text text) (λ _. past (free_target w a) (λ t. then (names.made_link w text t) (make w t.dir t.name _) (λ new h. found_so h)))
 
 readlink : (w : World) (a : Found) → Leaves w (names.readlink w a)
-readlink w a = past (place_at w a) (λ p. past (names.link_text (target_of (facts_of w) p)) (λ text. found_so (refl, refl)))
+readlink w a = past (place_at w a) (λ p. past (names.link_text (target_of (facts_of w) p)) (λ text. found_so (refl, refl, refl)))
 
 undelete : (w : World) (a : Found) → Leaves w (names.undelete w a)
 undelete w a =
     past (target_at w errno.EEXIST a) (λ t. unless (not (has_white w t.dir t.name)) _ (λ _. found_so (edit w t.dir (λ s dir. clear_entry s dir t.name))))
 
 rename_case : (b : Bool) (w : World) (source d : Seen) (n : List ℕ) (new : Target) → Leaves w (names.rename_case b w source d n new)
-rename_case true w source d n new = found_so (refl, refl)
+rename_case true w source d n new = found_so (refl, refl, refl)
 rename_case false w source d n new =
     past (names.check_source (is_dir (facts_of w) source) w source new.dir) (λ _.
     past (names.check_replaced w (is_dir (facts_of w) source) new.child) (λ _.
@@ -151,13 +153,10 @@ rename w a b =
     unless (not (mount_of old.dir == mount_of new.dir)) _ (λ _. rename_case (names.is_there source new.child) w source old.dir old.name new))))
 
 stat : (w : World) (a : Found) → Leaves w (names.stat w a)
-stat w a = past (place_at w a) (λ p. past (names.stat_of (node_of w p)) (λ known. found_so (refl, refl)))
+stat w a = past (place_at w a) (λ p. past (names.stat_of (node_of w p)) (λ known. found_so (refl, refl, refl)))
 
 statfs : (w : World) (a : Found) → Leaves w (names.statfs w a)
-statfs w a = past (place_at w a) (λ p. found_so (refl, refl))
-
-chdir : (w : World) (c : ℕ) (a : Found) → Leaves w (names.chdir w c a)
-chdir w c a = past (dir_at w a) (λ d. found_so (refl, refl))
+statfs w a = past (place_at w a) (λ p. found_so (refl, refl, refl))
 
 -- what is open
 
@@ -166,23 +165,23 @@ resize w p n = edit w p (λ t i. resized t i n)
 
 cut_to : (b : Bool) (w : World) (p : Seen) → Same w (rows.cut_to b w p)
 cut_to true w p = resize w p 0
-cut_to false w p = (refl, refl)
+cut_to false w p = (refl, refl, refl)
 
 write_at : (w : World) (o : Open) (at : ℕ) (bytes : List ℕ) → Keeps (λ (x : World × ℕ). Same w x.0) AnyNeed (rows.write_at w o at bytes)
 write_at w o at bytes = unless (nat_lt rows.most_bytes (at + length bytes)) _ (λ _. found_so (edit w o.place (λ t i. written t i at bytes)))
 
 pread : (w : World) (c d n at : ℕ) → Leaves w (rows.pread w c d n at)
-pread w c d n at = past (rows.descriptor w c d) (λ o. past (rows.check_read w o n) (λ _. found_so (refl, refl)))
+pread w c d n at = past (rows.descriptor w c d) (λ o. past (rows.check_read w o n) (λ _. found_so (refl, refl, refl)))
 
 fstat : (w : World) (c d : ℕ) → Leaves w (rows.fstat w c d)
-fstat w c d = past (rows.descriptor w c d) (λ o. unless o.dead _ (λ _. past (names.stat_of (node_of w o.place)) (λ known. found_so (refl, refl))))
+fstat w c d = past (rows.descriptor w c d) (λ o. unless o.dead _ (λ _. past (names.stat_of (node_of w o.place)) (λ known. found_so (refl, refl, refl))))
 
 readdir : (w : World) (c d : ℕ) → Leaves w (rows.readdir w c d)
 readdir w c d =
-    past (rows.descriptor w c d) (λ o. unless o.dead _ (λ _. unless (not (is_dir (facts_of w) o.place)) _ (λ _. past (lifted w (visible w o.place)) (λ _. found_so (refl, refl)))))
+    past (rows.descriptor w c d) (λ o. unless o.dead _ (λ _. unless (not (is_dir (facts_of w) o.place)) _ (λ _. past (lifted w (visible w o.place)) (λ _. found_so (refl, refl, refl)))))
 
 pwrite_some : (w : World) (o : Open) (at : ℕ) (bytes : List ℕ) → Leaves w (rows.pwrite_some w o at bytes)
-pwrite_some w o at [] = found_so (refl, refl)
+pwrite_some w o at [] = found_so (refl, refl, refl)
 pwrite_some w o at (b ∷ bs) = then (rows.write_at w o (rows.write_to w o at) (b ∷ bs)) (write_at w o (rows.write_to w o at) (b ∷ bs)) (λ new h. found_so h)
 
 pwrite : (w : World) (c d at : ℕ) (bytes : List ℕ) → Leaves w (rows.pwrite w c d at bytes)
@@ -194,12 +193,9 @@ truncate w a n = past (place_at w a) (λ p. past (rows.check_length w p n) (λ _
 ftruncate : (w : World) (c d n : ℕ) → Leaves w (rows.ftruncate w c d n)
 ftruncate w c d n = past (rows.open_length w c d n) (λ p. found_so (resize w p n))
 
-fchdir : (w : World) (c d : ℕ) → Leaves w (rows.fchdir w c d)
-fchdir w c d = past (rows.open_dir w c d) (λ p. found_so (refl, refl))
-
 revoke_next : (w : World) (o : Option Ref) → Leaves w (mounts.revoke_next w o)
 revoke_next w (Some at) = needed tt
-revoke_next w None = found_so (refl, refl)
+revoke_next w None = found_so (refl, refl, refl)
 
 revoke : (w : World) (a : Found) → Leaves w (mounts.revoke w a)
 revoke w a = past (place_at w a) (λ p. unless (not (is_file (facts_of w) p)) _ (λ _. revoke_next w (first_open w p)))
@@ -214,7 +210,7 @@ same_opens : (w v : World) → Same w v → (k : ℕ × ℕ) → StaysButOffset 
 same_opens w v h k = subst (λ m. StaysButOffset (get w.opens k) (get m k)) (sym h.0) (same_open (get w.opens k))
 
 pub apart : (c : ℕ) (w v : World) → Same w v → Apart c w v
-apart c w v h = record { opens = λ k _. ap (λ m. get m k) h.0; stays = same_opens w v h; mounts = λ m. inl (inr (ap (λ (x : Mounts). kind_by (get x m)) h.1)) }
+apart c w v h = record { opens = λ k _. ap (λ m. get m k) h.0; stays = same_opens w v h; mounts = λ m. inl (inr (ap (λ (x : Mounts). kind_by (get x m)) h.1)); cwds = λ d _. ap (λ x. get x d) h.2 }
 
 -- a descriptor is set
 set : (c d : ℕ) (w v : World) (o : Open) → StaysButOffset (get w.opens (c, d)) (Some o) → Same w v → Apart c w (rows.with_open v c d o)
@@ -222,6 +218,7 @@ set c d w v o its h = record {
   opens = λ k other. by_key pair_total pair_exact v.opens (c, d) o k (λ x. x ≡ get w.opens k) (λ is. no_way (sym other ∙ eq-eqb k.0 c (ap (λ (x : ℕ × ℕ). x.0) is))) (ap (λ m. get m k) h.0);
   stays = λ k. by_key pair_total pair_exact v.opens (c, d) o k (StaysButOffset (get w.opens k)) (λ is. subst (λ q. StaysButOffset (get w.opens q) (Some o)) (sym is) its) (same_opens w v h k);
   mounts = λ m. inl (inr (ap (λ (x : Mounts). kind_by (get x m)) h.1));
+  cwds = λ d _. ap (λ x. get x d) h.2;
 }
 
 -- a free one is set, or the offset of one that is open
@@ -271,10 +268,26 @@ module _ (c : ℕ) where
   all : (w : World) (o : Outcome) → Leaves w o → Parts w o
   all w o h = weaker o (λ x s. apart c w x.0 s) (λ _ n. n) h
 
+  -- current directories
+
+  entered : (w : World) (p : Seen) → Apart c w (names.with_cwd w c p)
+  entered w p = record {
+    opens = λ k _. refl;
+    stays = λ k. same_open (get w.opens k);
+    mounts = λ m. inl (inr refl);
+    cwds = λ d other. by_key nat_cmp_total exact_unsigned w.cwds c (record { place = p; dead = false }) d (λ o. o ≡ get w.cwds d) (λ is. no_way (sym other ∙ eq-eqb d c is)) refl;
+  }
+
+  chdir : (w : World) (a : Found) → Parts w (names.chdir w c a)
+  chdir w a = past (dir_at w a) (λ d. found_so (entered w d))
+
+  fchdir : (w : World) (d : ℕ) → Parts w (rows.fchdir w c d)
+  fchdir w d = past (rows.open_dir w c d) (λ p. found_so (entered w p))
+
   -- mounts
 
   mount_mem : (w : World) (a : Found) → Parts w (mounts.mount_mem w a)
-  mount_mem w a = past (dir_at w a) (λ on. past (mounts.check_mounts w) (λ _. found_so (record { opens = λ k _. refl; stays = λ k. same_open (get w.opens k); mounts = λ n. added w kind.Mem on n tt })))
+  mount_mem w a = past (dir_at w a) (λ on. past (mounts.check_mounts w) (λ _. found_so (record { opens = λ k _. refl; stays = λ k. same_open (get w.opens k); mounts = λ n. added w kind.Mem on n tt; cwds = λ d _. refl })))
 
   mount_null : (w : World) (a b : Found) → Parts w (mounts.mount_null w a b)
   mount_null w a b =
@@ -282,7 +295,7 @@ module _ (c : ℕ) where
       past (dir_at w b) (λ on.
       unless (same_place layer on) _ (λ _.
       unless (depth (facts_of w) layer == mounts.most_depth) _ (λ shallow.
-      past (mounts.check_mounts w) (λ _. found_so (record { opens = λ k _. refl; stays = λ k. same_open (get w.opens k); mounts = λ n. added w (kind.Null layer) on n shallow }))))))
+      past (mounts.check_mounts w) (λ _. found_so (record { opens = λ k _. refl; stays = λ k. same_open (get w.opens k); mounts = λ n. added w (kind.Null layer) on n shallow; cwds = λ d _. refl }))))))
 
   mount_union : (w : World) (a b : Found) → Parts w (mounts.mount_union w a b)
   mount_union w a b =
@@ -291,14 +304,14 @@ module _ (c : ℕ) where
       past (mounts.upper_of up) (λ upper.
       unless (list_any (λ s. s == upper.store) (stores (facts_of w) on)) _ (λ _.
       unless (depth (facts_of w) on == mounts.most_depth) _ (λ shallow.
-      past (mounts.check_mounts w) (λ _. found_so (record { opens = λ k _. refl; stays = λ k. same_open (get w.opens k); mounts = λ n. added w (kind.Union upper.store upper.ino on) on n shallow })))))))
+      past (mounts.check_mounts w) (λ _. found_so (record { opens = λ k _. refl; stays = λ k. same_open (get w.opens k); mounts = λ n. added w (kind.Union upper.store upper.ino on) on n shallow; cwds = λ d _. refl })))))))
 
   umount : (w : World) (a : Found) → Parts w (mounts.umount w a)
-  umount w a = past (mount_at w a) (λ m. unless (m == 0) _ (λ _. unless (has_references w m) _ (λ _. found_so (record { opens = λ k _. refl; stays = λ k. same_open (get w.opens k); mounts = gone w m }))))
+  umount w a = past (mount_at w a) (λ m. unless (m == 0) _ (λ _. unless (has_references w m) _ (λ _. found_so (record { opens = λ k _. refl; stays = λ k. same_open (get w.opens k); mounts = gone w m; cwds = λ d _. refl }))))
 
   doom_next : (w : World) (m : ℕ) (o : Option Ref) → Parts w (mounts.doom_next w c m o)
   doom_next w m (Some at) = needed tt
-  doom_next w m None = found_so (record { opens = λ k _. refl; stays = λ k. same_open (get w.opens k); mounts = gone w m })
+  doom_next w m None = found_so (record { opens = λ k _. refl; stays = λ k. same_open (get w.opens k); mounts = gone w m; cwds = λ d _. refl })
 
   umount_by : (w : World) (a : Found) (o : Option ℕ) → Parts w (mounts.umount_by w c a o)
   umount_by w a (Some m) = doom_next w m (first_in w m)
@@ -307,17 +320,17 @@ module _ (c : ℕ) where
   -- descriptors
 
   close : (w : World) (d : ℕ) → Parts w (rows.close w c d)
-  close w d = past (rows.descriptor w c d) (λ o. found_so (record { opens = λ k other. still_open w.opens c d k other; stays = closed w c d; mounts = λ m. inl (inr refl) }))
+  close w d = past (rows.descriptor w c d) (λ o. found_so (record { opens = λ k other. still_open w.opens c d k other; stays = closed w c d; mounts = λ m. inl (inr refl); cwds = λ d _. refl }))
 
   read : (w : World) (d n : ℕ) → Parts w (rows.read w c d n)
-  read w d n = then (rows.descriptor w c d) (at_descriptor w c d) (λ o at. past (rows.check_read w o n) (λ _. found_so (moved c d w w o _ at (refl, refl))))
+  read w d n = then (rows.descriptor w c d) (at_descriptor w c d) (λ o at. past (rows.check_read w o n) (λ _. found_so (moved c d w w o _ at (refl, refl, refl))))
 
   lseek : (w : World) (d : ℕ) (x : Whence) (i : ℤ) → Parts w (rows.lseek w c d x i)
   lseek w d x i =
-      then (rows.descriptor w c d) (at_descriptor w c d) (λ o is. unless o.dead _ (λ _. past (rows.offset_of (pos (rows.seek_from w o x) +ℤ i)) (λ at. found_so (moved c d w w o _ is (refl, refl)))))
+      then (rows.descriptor w c d) (at_descriptor w c d) (λ o is. unless o.dead _ (λ _. past (rows.offset_of (pos (rows.seek_from w o x) +ℤ i)) (λ at. found_so (moved c d w w o _ is (refl, refl, refl)))))
 
   write_some : (w : World) (d : ℕ) (o : Open) (bytes : List ℕ) → get w.opens (c, d) ≡ Some o → Parts w (rows.write_some w c d o bytes)
-  write_some w d o [] at = found_so (apart c w w (refl, refl))
+  write_some w d o [] at = found_so (apart c w w (refl, refl, refl))
   write_some w d o (b ∷ bs) at =
       then (rows.write_at w o (rows.write_to w o o.offset) (b ∷ bs)) (write_at w o (rows.write_to w o o.offset) (b ∷ bs)) (λ new h. found_so (moved c d w new.0 o _ at h))
 
@@ -369,8 +382,8 @@ module _ (c : ℕ) where
   by_call w (call.Symlink t p) a b = all w _ (symlink w t a)
   by_call w (call.Readlink p) a b = all w _ (readlink w a)
   by_call w (call.Undelete p) a b = all w _ (undelete w a)
-  by_call w (call.Chdir p) a b = all w _ (chdir w c a)
-  by_call w (call.Fchdir d) a b = all w _ (fchdir w c d)
+  by_call w (call.Chdir p) a b = chdir w a
+  by_call w (call.Fchdir d) a b = fchdir w d
   by_call w (call.Statfs p) a b = all w _ (statfs w a)
   by_call w (call.MountMem p) a b = mount_mem w a
   by_call w (call.MountNull t p) a b = mount_null w a b
@@ -381,4 +394,4 @@ module _ (c : ℕ) where
 
   -- what a call leaves
   pub apart_call : (w : World) (call : Call) (r : Reply) → Apart c w (after w (entry.Call c call r))
-  apart_call w call r = left-so (Apart c w) w c call r (apart c w w (refl, refl)) (by_call w call (first_found w c call) (second_found w c call))
+  apart_call w call r = left-so (Apart c w) w c call r (apart c w w (refl, refl, refl)) (by_call w call (first_found w c call) (second_found w c call))

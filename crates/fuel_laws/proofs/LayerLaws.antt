@@ -1,5 +1,5 @@
 -- Mounts stay few layers deep.
-use Rattle.std.proofs.Common.{◌≡◌, ℕ, zero, suc, ◌+◌, ◌≤◌, ◌<◌, inl, inr, false, ◌==◌, List, [], ◌∷◌, refl, ap, sym, ◌∙◌, subst, arith, eq-eqb, eq-or-lt_of_le}
+use Rattle.std.proofs.Common.{◌≡◌, ℕ, zero, suc, ◌+◌, ◌≤◌, ◌<◌, inl, inr, false, ◌==◌, List, [], refl, ap, sym, ◌∙◌, subst, arith, eq-eqb, eq-or-lt_of_le}
 use Rattle.std.specs.Prelude.{Option, Some, None, IfSome, is_some, option_map}
 use Rattle.std.specs.Cmp.{nat_cmp_total}
 use Rattle.std.specs.FinMap.{get}
@@ -20,15 +20,12 @@ use Rattle.vfs_tree.specs.declared.node.Node.{Node}
 use Rattle.vfs_tree.specs.declared.node.Node.TheVariants.{File}
 use Rattle.vfs_tree.specs.declared.walk.Child.{Child}
 use Rattle.vfs_tree.specs.declared.walk.Child.TheVariants as child
-use Rattle.vfs_tree.specs.declared.walk.Step.TheVariants.{Go, Refuse, Wants}
 use Rattle.vfs_tree.specs.declared.world.World.{World}
-use Rattle.call_model.specs.Apply.{Applied, Finished, Needs, settle}
-use Rattle.call_model.specs.Checks.{Outcome, upper_store, node_of}
+use Rattle.call_model.specs.Checks.{upper_store, node_of}
 use Rattle.call_model.specs.Effects.{made_above, copy_of, copied_child, doomed_place, effect}
-use Rattle.call_model.specs.Legal.{Pending, IsNeeded, IsLegal, IsLegalFrom, doomers_after, next_call, after, replay}
+use Rattle.call_model.specs.Legal.{Pending, IsLegal, after, replay}
 use Rattle.call_model.specs.MountRows.{most_depth}
 use Rattle.call_model.specs.Refs.{place_of}
-use Rattle.call_model.specs.Rows.{row}
 use Rattle.call_model.specs.declared.call.Call.{Call}
 use Rattle.call_model.specs.declared.entry.Entry.{Entry}
 use Rattle.call_model.specs.declared.entry.Entry.TheVariants as entry
@@ -39,12 +36,11 @@ use Rattle.call_laws.specs.Lasting.{lower_mount, IsOver, IsLasting}
 use Rattle.call_laws.proofs.DetachLaws.{lower_less}
 use Rattle.call_laws.proofs.FlagLaws.{get_each}
 use Rattle.call_laws.proofs.NamedLaws.{no_way}
-use Rattle.call_laws.proofs.NeededLaws.{whole-needed}
 use Rattle.call_laws.proofs.PlaceLaws.{lasting-start}
 use Rattle.call_laws.proofs.SoundLaws.{sound-start, only}
 use Rattle.call_laws.proofs.SoundParts.{each_layer, mount_there}
 use Rattle.call_laws.proofs.Whole.{IsWhole}
-use Rattle.call_laws.proofs.WorldLaws.{whole-call}
+use Rattle.call_laws.proofs.WorldLaws.{whole-call, kept-history}
 use Rattle.model_laws.proofs.FuelLaws.{depth_mem, depth_null, depth_union}
 use Rattle.fuel_laws.specs.Layered.{IsFalling, IsLayered}
 use Rattle.fuel_laws.proofs.ApartLaws.{HasRoom, Grown, kind_by, same-store, apart_call}
@@ -215,29 +211,9 @@ layered_start limits = record {
   falling = λ m. only 0 root_mount m (λ o. IfSome (kind_by o) (EachLayer IsFalling)) (λ _. tt) tt;
 }
 
-abbrev need_or : Applied → Inner → Inner
-need_or (Needs x) y = x
-need_or (Finished w r) y = y
-
-row_needs : (w : World) (o : Outcome) (x : Inner) → settle w o ≡ Needs x → o ≡ Wants x
-row_needs w (Go y) x e = absurd cc
-row_needs w (Refuse y) x e = absurd cc
-row_needs w (Wants y) x e = ap Wants (ap (λ a. need_or a y) e)
-
-whole_inner : (w : World) (c : ℕ) (o : Option Call) (x : Inner) → IsNeeded w c o x → IsWhole w → IsWhole (effect w c x)
-whole_inner w c (Some call) x needs h = whole-needed w c call x (row_needs w (row w c call) x needs) h
-whole_inner w c None x needs h = absurd needs
-
 -- a legal history leaves such a world
-layered_from : (p : Pending) (doomers : List ℕ) (w : World) (es : List Entry) → IsLegalFrom p doomers w es → IsWhole w → IsLayered w → IsLayered (replay w es)
-layered_from p doomers w [] legal h layered = layered
-layered_from p doomers w (entry.Call c call r ∷ es) legal h layered =
-    layered_from p (doomers_after doomers (entry.Call c call r)) (after w (entry.Call c call r)) es legal.1 (whole-call w c r h call) (layered_after w c call r h layered)
-layered_from p doomers w (entry.Inner c x ∷ es) legal h layered =
-    layered_from p (doomers_after doomers (entry.Inner c x)) (effect w c x) es legal.1 (whole_inner w c (next_call p c es) x legal.0 h) (layered_inner w c x layered)
-
 pub layered_on : (p : Pending) (w : World) (es : List Entry) → IsLegal p w es → IsSound w → IsLasting w → IsLayered w → IsLayered (replay w es)
-layered_on p w es legal sound lasts layered = layered_from p [] w es legal (record { sound = sound; lasts = lasts }) layered
+layered_on p w es legal sound lasts layered = kept-history IsLayered (λ w h layered c r x. layered_after w c x r h layered) (λ w h layered c x i needs. layered_inner w c i layered) p [] w es legal (record { sound = sound; lasts = lasts }) layered
 
 pub layered_history : (limits : Limits) (p : Pending) (es : List Entry) → IsLegal p (start_world limits) es → IsLayered (replay (start_world limits) es)
 layered_history limits p es legal = layered_on p (start_world limits) es legal (sound-start limits) (lasting-start limits) (layered_start limits)

@@ -25,7 +25,7 @@ use Rattle.call_model.specs.Refs.{place_of}
 use Rattle.call_model.specs.Rows.{row}
 use Rattle.call_model.specs.declared.call.Call.{Call}
 use Rattle.call_model.specs.declared.entry.Entry.TheVariants as entry
-use Rattle.call_model.specs.declared.entry.Inner.TheVariants.{CopyUp, Doom, Shadow}
+use Rattle.call_model.specs.declared.entry.Inner.TheVariants.{CopyUp, Detach, Doom, Shadow}
 use Rattle.call_model.specs.declared.entry.Ref.{Ref}
 use Rattle.call_model.specs.declared.reply.Reply.{Reply}
 use Rattle.call_laws.specs.Fitting.{Fits}
@@ -56,7 +56,25 @@ pub others_leaving : (w : World) (c d : ℕ) (call : Call) (r : Reply) → (d ==
 others_leaving w c d call r other =
     either (is_no_memory r) w (world_after w (settle w (row w c call))) d (leaving_row w c d call (row w c call) (row_fits w c call) other)
 
+-- a call leaves the current directories of others
+pub others_call : (w : World) (c d : ℕ) (call : Call) (r : Reply) → (d == c) ≡ false → get (after w (entry.Call c call r)).cwds d ≡ get w.cwds d
+others_call w c d call r other = (apart_call c w call r).cwds d other
+
 -- ---- inner entries
+
+pub others_shadow : (w : World) (c m u : ℕ) (n : List ℕ) → (effect w c (Shadow m u n)).cwds ≡ w.cwds
+others_shadow w c m u n = (alone-made_above w m u n (new_dir u false)).1
+
+copied_as : (w : World) (m u : ℕ) (n : List ℕ) (o : Child) → (copied_child w m u n o).cwds ≡ w.cwds
+copied_as w m u n (child.At q) = (alone-made_above w m u n (copy_of (node_of w q))).1
+copied_as w m u n child.Absent = (alone-made_above w m u n (File [])).1
+copied_as w m u n (child.Need x) = (alone-made_above w m u n (File [])).1
+
+pub others_copy_up : (w : World) (c m u : ℕ) (n : List ℕ) → (effect w c (CopyUp m u n)).cwds ≡ w.cwds
+others_copy_up w c m u n = copied_as w m u n (child_below (child_of (facts_of w)) (low (facts_of w) m u) n)
+
+pub others_detach : (w : World) (c m : ℕ) → (effect w c (Detach m)).cwds ≡ w.cwds
+others_detach w c m = refl
 
 open_above : (w : World) (m u : ℕ) (n : List ℕ) (node : Node) → (made_above w m u n node).opens ≡ w.opens
 open_above w m u n node = (alone-made_above w m u n node).0

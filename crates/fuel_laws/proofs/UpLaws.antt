@@ -18,11 +18,11 @@ use Rattle.vfs_tree.specs.declared.world.World.{World}
 use Rattle.call_laws.specs.Lasting.{IsLasting}
 use Rattle.call_laws.proofs.NamedLaws.{no_way}
 use Rattle.call_laws.proofs.SoundParts.{or_none}
+use Rattle.call_laws.proofs.WayLaws.{not_one}
 use Rattle.call_laws.proofs.Whole.{IsWhole}
 use Rattle.fuel_laws.specs.Layered.{IsLayered}
 use Rattle.fuel_laws.specs.ShownUnder.{shown_under, shown_lower}
 use Rattle.fuel_laws.proofs.LookLaws.{low_whole}
-use Rattle.model_laws.proofs.WayLaws.{not_one}
 use Rattle.fuel_laws.proofs.WayLaws.{IsShort, short_way, parent_linked}
 
 -- ---- lower parts

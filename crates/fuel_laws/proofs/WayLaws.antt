@@ -12,21 +12,17 @@ use Rattle.vfs_tree.specs.declared.view.DirFacts.{DirFacts}
 use Rattle.vfs_tree.specs.declared.world.World.{World}
 use Rattle.call_laws.proofs.MadeLaws.{kind_at, linked_dir}
 use Rattle.call_laws.proofs.NamedLaws.{no_way}
+use Rattle.call_laws.proofs.WayLaws as ways
 use Rattle.call_laws.proofs.Whole.{IsWhole}
 use Rattle.call_laws.proofs.WholeLaws.{IsWell, well_store}
 use Rattle.model_laws.specs.Named.{IsNamedAbove}
 use Rattle.model_laws.proofs.LinkLaws.{linked_above}
-use Rattle.model_laws.proofs.WayLaws as ways
 
 -- a way up to the root with fewer steps than are taken
 pub record IsShort (dir : ℕ → Option DirFacts) (i : ℕ) : Type 0 where
   pub count : ℕ
   pub root : climb count dir i ≡ 1
   pub less : count < steps
-
-fits_steps : (k : ℕ) → suc k ≤ 4294967295 → k < steps
-unfolding steps
-fits_steps k h = omega (arith, h)
 
 linked_there : (t : Store) (i : ℕ) → linked_by (dir_in t i) ≡ true → IsSome (kind_at t i)
 linked_there t i h = ap is_some (linked_dir t i (get t.nodes i) h)
@@ -38,7 +34,7 @@ short_in w h s i (Some t) at up linked =
     let x : ways.ShortWay t i = ways.short_way t well i (linked_there t i linked) up in
     let few : suc x.steps ≤ t.next = x.less in
     let most : t.next ≤ 4294967295 = well.most in
-    record { count = x.steps; root = x.root; less = fits_steps x.steps (omega (arith, few, most)) }
+    record { count = x.steps; root = x.root; less = ways.fits_steps x.steps (omega (arith, few, most)) }
 short_in w h s i None at up linked = no_way linked
 
 pub short_way : (w : World) → IsWhole w → (s i : ℕ) → is_linked (facts_of w) s i ≡ true → IsShort ((facts_of w).dir s) i

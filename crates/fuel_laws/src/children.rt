@@ -1,3 +1,4 @@
+// What stands at a name is found, and shown, through all layers: the steps of the definitions are enough.
 ghost use Rattle.std.specs.Prelude.{◌≡◌, ◌==◌, ◌||◌, ◌∷◌, [], ℕ, List, Option, Some, IfSome, true, false};
 ghost use Rattle.std.specs.FinMap.{get};
 ghost use Rattle.vfs_tree.specs.Child.{child_below, child_mem, child_null, child_of, child_union, low, low_case, upper_entry};

@@ -1,3 +1,4 @@
+// Mounts stay at most four layers deep, each over mounts with smaller numbers.
 ghost use Rattle.std.specs.Prelude.{◌≤◌, ℕ, List};
 ghost use Rattle.vfs_tree.specs.Layers.{depth};
 ghost use Rattle.vfs_tree.specs.Place.{Seen};

@@ -1,3 +1,4 @@
+// The names that a directory shows are listed through all layers.
 ghost use Rattle.std.specs.Prelude.{◌≡◌, ℕ, List, []};
 ghost use Rattle.vfs_tree.specs.Child.{low};
 ghost use Rattle.vfs_tree.specs.Place.{Mem, Null, Seen, UnionLow, UnionUp};

@@ -1,3 +1,4 @@
+// An open answers the lowest free descriptor.
 ghost use Rattle.std.specs.Prelude.{◌≡◌, ◌<◌, ℕ, List, false};
 ghost use Rattle.vfs_tree.specs.declared.errno.Errno.TheVariants as errno;
 ghost use Rattle.vfs_tree.specs.declared.world.World.{World};

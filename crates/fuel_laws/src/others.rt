@@ -1,3 +1,4 @@
+// What calls and inner entries of one caller leave of open files and current directories, its own and others'.
 ghost use Rattle.std.specs.Prelude.{◌≡◌, ◌==◌, ℕ, List, Some, None, false, option_map, true};
 ghost use Rattle.std.specs.FinMap.{get};
 ghost use Rattle.std.specs.List.{list_any};
@@ -62,6 +63,17 @@ pub fn inner_entries_keep_open_files()
     // None changes which mounts others are leaving, or which calls are pending.
     ensures leaving { (w : World) (c d : ℕ) (x : Inner) → (d == c) ≡ false → get (effect w c x).leaving d ≡ get w.leaving d }
     ensures pending { (p : Pending) (c : ℕ) (x : Inner) → pending_after p (entry.Inner c x) ≡ p }
+{}
+
+/// Only a caller's own calls, and dooms, change its current directory: a law of the model, with no code.
+pub fn others_keep_a_current_directory()
+    // A call of another caller leaves it.
+    ensures call { (w : World) (c d : ℕ) (call : Call) (r : Reply)
+        → (d == c) ≡ false → get (after w (entry.Call c call r)).cwds d ≡ get w.cwds d }
+    // So does each inner entry but a doom, whoever makes it.
+    ensures shadow { (w : World) (c m u : ℕ) (n : List ℕ) → (effect w c (Shadow m u n)).cwds ≡ w.cwds }
+    ensures copy_up { (w : World) (c m u : ℕ) (n : List ℕ) → (effect w c (CopyUp m u n)).cwds ≡ w.cwds }
+    ensures detach { (w : World) (c m : ℕ) → (effect w c (Detach m)).cwds ≡ w.cwds }
 {}
 
 /// What a doom leaves of current directories: a law of the model, with no code. The other inner entries leave them.

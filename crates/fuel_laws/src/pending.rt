@@ -1,3 +1,4 @@
+// A history has each caller's calls in their order, each ended by its own entry.
 ghost use Rattle.std.specs.Prelude.{◌≡◌, ◌==◌, ◌∷◌, ◌++◌, [], ℕ, List, Some, None, false};
 ghost use Rattle.std.specs.FinMap.{get};
 ghost use Rattle.vfs_tree.specs.declared.world.World.{World};

@@ -1,3 +1,4 @@
+// A walk takes as many steps as it has components and links, and more steps find the same.
 ghost use Rattle.std.specs.Prelude.{◌≡◌, ◌≤◌, ◌<◌, ◌+◌, ◌⊎◌, ℕ, Bool, List, true};
 ghost use Rattle.vfs_tree.specs.Carriers.{below_within};
 ghost use Rattle.vfs_tree.specs.Child.{Lookup, child_of, child_within, low_within, steps};

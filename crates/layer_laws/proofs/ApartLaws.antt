@@ -1,5 +1,5 @@
 -- The lower layer of a union stays apart from the memory mount of its upper one.
-use Rattle.std.proofs.Common.{◌≡◌, ℕ, zero, suc, ◌+◌, ◌<◌, ◌⊎◌, inl, inr, Bool, true, false, cond, not, ◌&&◌, ◌||◌, ◌==◌, List, [], ◌∷◌, refl, ap, sym, ◌∙◌, subst, arith, nat_cmp}
+use Rattle.std.proofs.Common.{◌≡◌, ℕ, zero, suc, ◌+◌, ◌<◌, ◌⊎◌, inl, inr, Bool, true, false, cond, not, ◌&&◌, ◌||◌, ◌==◌, List, [], refl, ap, sym, ◌∙◌, subst, arith, nat_cmp}
 use Rattle.std.specs.Prelude.{Option, Some, None, IfSome, is_some, option_map, nat_lt}
 use Rattle.std.specs.List.{list_any}
 use Rattle.std.specs.Cmp.{nat_cmp_total}
@@ -32,13 +32,12 @@ use Rattle.vfs_tree.specs.declared.walk.Child.{Child}
 use Rattle.vfs_tree.specs.declared.walk.Child.TheVariants as child
 use Rattle.vfs_tree.specs.declared.walk.Found.{Found}
 use Rattle.vfs_tree.specs.declared.walk.Found.TheVariants as found
-use Rattle.vfs_tree.specs.declared.walk.Step.TheVariants.{Go, Refuse, Wants}
+use Rattle.vfs_tree.specs.declared.walk.Step.TheVariants.{Wants}
 use Rattle.vfs_tree.specs.declared.world.World.{World}
-use Rattle.call_model.specs.Apply.{Applied, Finished, Needs, settle}
 use Rattle.call_model.specs.Checks.{Outcome, is_full, upper_store, copied, place_at, mount_at, target_at, there, dir_at, free_target, node_of, has_white, edit_at, make_at, drop_at}
 use Rattle.call_model.specs.DataRows as data_rows
 use Rattle.call_model.specs.Effects.{copy_of, copied_child, detached, doomed_place, effect, made_above}
-use Rattle.call_model.specs.Legal.{Pending, IsNeeded, IsLegal, IsLegalFrom, doomers_after, next_call, after, replay}
+use Rattle.call_model.specs.Legal.{Pending, IsLegal, after, replay}
 use Rattle.call_model.specs.MountRows as mounts
 use Rattle.call_model.specs.NameRows as names
 use Rattle.call_model.specs.Refs.{first_in, place_of}
@@ -64,7 +63,7 @@ use Rattle.call_laws.proofs.SoundLaws.{only, sound-start}
 use Rattle.call_laws.proofs.SoundParts.{or_none, kind_or, mount_there}
 use Rattle.call_laws.proofs.SoundRows.{AnyNeed, LeavesSo, IsSteady, so-decide, so-quiet}
 use Rattle.call_laws.proofs.Whole.{IsWhole}
-use Rattle.call_laws.proofs.WorldLaws.{whole-call}
+use Rattle.call_laws.proofs.WorldLaws.{whole-call, kept-history}
 use Rattle.model_laws.proofs.Leaving.{any}
 use Rattle.layer_laws.specs.Apart.{IsApart}
 
@@ -386,15 +385,6 @@ apart_start limits m s u lower =
     only 0 root_mount m (λ o. option_map (λ (t : Mount). t.kind) o ≡ Some (kind.Union s u lower) → list_any (λ t. t == s) (stores (facts_of (start_world limits)) lower) ≡ false)
     (λ same is. absurd (let clash : Some kind.Mem ≡ Some (kind.Union s u lower) = is in cc)) (λ is. absurd (let clash : None ≡ Some (kind.Union s u lower) = is in cc))
 
-abbrev need_or : Applied → Inner → Inner
-need_or (Needs x) y = x
-need_or (Finished w r) y = y
-
-row_needs : (w : World) (o : Outcome) (x : Inner) → settle w o ≡ Needs x → o ≡ Wants x
-row_needs w (Go y) x e = absurd cc
-row_needs w (Refuse y) x e = absurd cc
-row_needs w (Wants y) x e = ap Wants (ap (λ a. need_or a y) e)
-
 -- what is kept where mounts are added so is kept by calls, by what they need, and by histories
 module _ (A : World → Type 0) (grow : (w v : World) → IsWhole w → IsWhole v → Adds w v → A w → A v) where
   pub kept_call : (w : World) (c : ℕ) (x : Call) (r : Reply) → IsWhole w → A w → A (after w (entry.Call c x r))
@@ -403,19 +393,8 @@ module _ (A : World → Type 0) (grow : (w v : World) → IsWhole w → IsWhole 
   pub kept_needed : (w : World) (c : ℕ) (x : Call) (i : Inner) → row w c x ≡ Wants i → IsWhole w → A w → A (effect w c i)
   kept_needed w c x i needs h = grow w (effect w c i) h (whole-needed w c x i needs h) (adds-inner w c i)
 
-  kept_entry : (w : World) (c : ℕ) (o : Option Call) (x : Inner) → IsNeeded w c o x → IsWhole w → A w → IsWhole (effect w c x) × A (effect w c x)
-  kept_entry w c (Some call) x needs h a = let is = row_needs w (row w c call) x needs in (whole-needed w c call x is h, kept_needed w c call x is h a)
-  kept_entry w c None x needs h a = absurd needs
-
-  kept_from : (p : Pending) (doomers : List ℕ) (w : World) (es : List Entry) → IsLegalFrom p doomers w es → IsWhole w → A w → A (replay w es)
-  kept_from p doomers w [] legal h a = a
-  kept_from p doomers w (entry.Call c call r ∷ es) legal h a =
-      kept_from p (doomers_after doomers (entry.Call c call r)) (after w (entry.Call c call r)) es legal.1 (whole-call w c r h call) (kept_call w c call r h a)
-  kept_from p doomers w (entry.Inner c x ∷ es) legal h a =
-      let next = kept_entry w c (next_call p c es) x legal.0 h a in kept_from p (doomers_after doomers (entry.Inner c x)) (effect w c x) es legal.1 next.0 next.1
-
   pub kept_history : (p : Pending) (w : World) (es : List Entry) → IsLegal p w es → IsWhole w → A w → A (replay w es)
-  kept_history p = kept_from p []
+  kept_history p = kept-history A (λ w h a c r x. kept_call w c x r h a) (λ w h a c x i needs. kept_needed w c x i needs h a) p []
 
 pub whole : (w : World) → IsSound w → IsLasting w → IsWhole w
 whole w s l = record { sound = s; lasts = l }

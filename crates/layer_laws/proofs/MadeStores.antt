@@ -1,13 +1,11 @@
 -- What a store has after a node is made at a name.
-use Rattle.std.proofs.Common.{◌≡◌, ℕ, ◌<◌, Bool, true, false, ◌||◌, ◌==◌, List, refl, ap, sym, ◌∙◌, subst, arith, nat_cmp}
-use Rattle.std.specs.Prelude.{Option, Some, None, IsSome, option_map, option_and_then}
-use Rattle.std.specs.Cmp.{nat_cmp_total}
+use Rattle.std.proofs.Common.{◌≡◌, ℕ, Bool, true, false, ◌||◌, ◌==◌, List, refl, ap, sym, ◌∙◌, subst}
+use Rattle.std.specs.Prelude.{Option, Some, None, option_map, option_and_then}
 use Rattle.std.specs.Cmp.Lexicographic.{nat_list_cmp_total}
-use Rattle.std.specs.FinMap.{FinMap, get, insert, get-empty}
-use Rattle.std.proofs.lemmas.Map.Lookups.{exact_unsigned, exact_bytes}
-use Rattle.finite_maps.proofs.EntryLaws.{by_key, get_at-insert}
-use Rattle.vfs_tree.specs.Edits.{with_names, with_node, made}
-use Rattle.vfs_tree.specs.Name.{name_cmp}
+use Rattle.std.specs.FinMap.{get}
+use Rattle.std.proofs.lemmas.Map.Lookups.{exact_bytes}
+use Rattle.finite_maps.proofs.EntryLaws.{by_key}
+use Rattle.vfs_tree.specs.Edits.{made}
 use Rattle.vfs_tree.specs.Nodes.{Names, entry_in, AreBelow}
 use Rattle.vfs_tree.specs.Shown.{shown_node}
 use Rattle.vfs_tree.specs.StoreEdits.{entry_of}
@@ -18,17 +16,8 @@ use Rattle.vfs_tree.specs.declared.node.Node.{Node}
 use Rattle.vfs_tree.specs.declared.node.Node.TheVariants.{Dir, File, Link}
 use Rattle.vfs_tree.specs.declared.node.Store.{Store}
 use Rattle.vfs_tree.specs.declared.view.DirFacts.{DirFacts}
-use Rattle.call_laws.proofs.MadeLaws.{IsFresh, none_some, inode_of, linked_named}
+use Rattle.call_laws.proofs.MadeLaws.{IsFresh, none_some, fresh_names, linked_named, inode_of, unused, node_case, node_new, entry_new}
 use Rattle.call_laws.proofs.NamedLaws.{no_way, named_from, named_to}
-
-no_node : (o : Option Node) (i : ℕ) → (IsSome o → i < i) → o ≡ None
-no_node None i h = refl
-no_node (Some x) i h = absurd (let less = h refl in omega (arith, less))
-
-fresh_names : (u : ℕ) (node : Node) → IsFresh u node → (m : List ℕ) → entry_in m (Some node) ≡ None
-fresh_names u (Dir parent opaque names) h m = ap (λ (x : Names). get x m) h.1 ∙ get-empty {X = NameEntry} name_cmp m
-fresh_names u (File bytes) h m = refl
-fresh_names u (Link target) h m = refl
 
 -- two truth values that follow from one another
 both_ways : (a b : Bool) → (a ≡ true → b ≡ true) → (b ≡ true → a ≡ true) → a ≡ b
@@ -49,59 +38,29 @@ module _ (t : Store) (u : ℕ) (n : List ℕ) (node : Node) (parent : ℕ) (opaq
   abbrev new : Store
   new = made t u n node
 
-  abbrev over : Node
-  over = Dir parent opaque (insert names n (Ino t.next))
-
-  pub unused : get t.nodes t.next ≡ None
-  unused = no_node (get t.nodes t.next) t.next (below t.next)
-
-  apart : u ≡ t.next → ⊥
-  apart e = none_some unused (ap (get t.nodes) (sym e) ∙ at)
-
-  still : get (insert t.nodes t.next node) u ≡ Some (Dir parent opaque names)
-  still = by_key nat_cmp_total exact_unsigned t.nodes t.next node u (λ o. o ≡ Some (Dir parent opaque names)) (λ e. absurd (apart e)) at
-
-  nodes : new.nodes ≡ insert (insert t.nodes t.next node) u over
-  nodes = ap (with_node (with_names (λ names. insert names n (Ino t.next))) (insert t.nodes t.next node) u) still
-
-  node_case : (d : ℕ) (P : Option Node → Type 0) → (d ≡ u → P (Some over)) → (d ≡ t.next → P (Some node)) → P (get t.nodes d) → P (get new.nodes d)
-  node_case d P here there else =
-      subst (λ (m : FinMap nat_cmp Node). P (get m d)) (sym nodes)
-      (by_key nat_cmp_total exact_unsigned (insert t.nodes t.next node) u over d P here (by_key nat_cmp_total exact_unsigned t.nodes t.next node d P there else))
-
-  pub node_new : get new.nodes t.next ≡ Some node
-  node_new =
-      ap (λ (m : FinMap nat_cmp Node). get m t.next) nodes
-      ∙ by_key nat_cmp_total exact_unsigned (insert t.nodes t.next node) u over t.next (λ o. o ≡ Some node) (λ e. absurd (apart (sym e))) (get_at-insert nat_cmp_total t.nodes t.next node)
-
-  pub entry_new : entry_of new u n ≡ Some (Ino t.next)
-  entry_new =
-      ap (λ (m : FinMap nat_cmp Node). entry_in n (get m u)) nodes ∙ ap (entry_in n) (get_at-insert nat_cmp_total (insert t.nodes t.next node) u over)
-      ∙ get_at-insert nat_list_cmp_total names n (Ino t.next)
-
   -- what stands at another name is as before
   pub entry_case : (d : ℕ) (m : List ℕ) → (d ≡ t.next → ⊥) → (Q : Option NameEntry → Type 0) → (d ≡ u → m ≡ n → Q (Some (Ino t.next))) → Q (entry_of t d m) → Q (entry_of new d m)
   entry_case d m other Q here else =
-      node_case d (λ o. Q (entry_in m o))
+      node_case t u n node parent opaque names below at d (λ o. Q (entry_in m o))
       (λ same. by_key nat_list_cmp_total exact_bytes names n (Ino t.next) m Q (here same) (subst Q (ap (entry_in m) (ap (get t.nodes) same ∙ at)) else))
       (λ same. absurd (other same))
       else
 
   -- the new directory has no names
   pub entry_fresh : (m : List ℕ) → entry_of new t.next m ≡ None
-  entry_fresh m = ap (entry_in m) node_new ∙ fresh_names u node fresh m
+  entry_fresh m = ap (entry_in m) (node_new t u n node parent opaque names below at) ∙ fresh_names u node fresh m
 
   pub entry_stays : (d : ℕ) (m : List ℕ) (e : NameEntry) → entry_of t d m ≡ Some e → entry_of new d m ≡ Some e
   entry_stays d m e is =
-      node_case d (λ o. entry_in m o ≡ Some e)
+      node_case t u n node parent opaque names below at d (λ o. entry_in m o ≡ Some e)
       (λ same. let own : get names m ≡ Some e = sym (ap (entry_in m) (ap (get t.nodes) same ∙ at)) ∙ is in
       by_key nat_list_cmp_total exact_bytes names n (Ino t.next) m (λ o. o ≡ Some e) (λ k. none_some (ap (get names) k ∙ free) own) own)
-      (λ same. none_some (ap (entry_in m) (ap (get t.nodes) same ∙ unused)) is)
+      (λ same. none_some (ap (entry_in m) (ap (get t.nodes) same ∙ unused t u n node parent opaque names below at)) is)
       is
 
   entry_back : (d : ℕ) (m : List ℕ) (j : ℕ) → (j ≡ t.next → ⊥) → entry_of new d m ≡ Some (Ino j) → entry_of t d m ≡ Some (Ino j)
   entry_back d m j other =
-      node_case d (λ o. entry_in m o ≡ Some (Ino j) → entry_of t d m ≡ Some (Ino j))
+      node_case t u n node parent opaque names below at d (λ o. entry_in m o ≡ Some (Ino j) → entry_of t d m ≡ Some (Ino j))
       (λ same. by_key nat_list_cmp_total exact_bytes names n (Ino t.next) m (λ o. o ≡ Some (Ino j) → entry_of t d m ≡ Some (Ino j))
       (λ is e. absurd (other (sym (ap inode_of e))))
       (λ e. ap (entry_in m) (ap (get t.nodes) same ∙ at) ∙ e))
@@ -112,12 +71,12 @@ module _ (t : Store) (u : ℕ) (n : List ℕ) (node : Node) (parent : ℕ) (opaq
 
   pub shown_else : (d : ℕ) → (d ≡ t.next → ⊥) → option_map shown_node (get new.nodes d) ≡ option_map shown_node (get t.nodes d)
   shown_else d other =
-      node_case d (λ o. option_map shown_node o ≡ option_map shown_node (get t.nodes d))
+      node_case t u n node parent opaque names below at d (λ o. option_map shown_node o ≡ option_map shown_node (get t.nodes d))
       (λ same. sym (ap (option_map shown_node) (ap (get t.nodes) same ∙ at))) (λ same. absurd (other same)) refl
 
   pub kind_else : (d : ℕ) → (d ≡ t.next → ⊥) → option_map kind_of_node (get new.nodes d) ≡ option_map kind_of_node (get t.nodes d)
   kind_else d other =
-      node_case d (λ o. option_map kind_of_node o ≡ option_map kind_of_node (get t.nodes d))
+      node_case t u n node parent opaque names below at d (λ o. option_map kind_of_node o ≡ option_map kind_of_node (get t.nodes d))
       (λ same. sym (ap (option_map kind_of_node) (ap (get t.nodes) same ∙ at))) (λ same. absurd (other same)) refl
 
   named_else : (d : ℕ) → (d ≡ t.next → ⊥) → is_named_in new d ≡ is_named_in t d
@@ -128,7 +87,7 @@ module _ (t : Store) (u : ℕ) (n : List ℕ) (node : Node) (parent : ℕ) (opaq
 
   pub dir_else : (d : ℕ) → (d ≡ t.next → ⊥) → dir_in new d ≡ dir_in t d
   dir_else d other =
-      node_case d (λ o. option_and_then (facts_in new d) o ≡ dir_in t d)
+      node_case t u n node parent opaque names below at d (λ o. option_and_then (facts_in new d) o ≡ dir_in t d)
       (λ same. linked_else (Some (Dir parent opaque names)) ∙ sym (ap (option_and_then (facts_in t d)) (ap (get t.nodes) same ∙ at))) (λ same. absurd (other same)) (linked_else (get t.nodes d))
     where
       linked_else : (o : Option Node) → option_and_then (facts_in new d) o ≡ option_and_then (facts_in t d) o
@@ -136,4 +95,4 @@ module _ (t : Store) (u : ℕ) (n : List ℕ) (node : Node) (parent : ℕ) (opaq
 
   -- the new node is linked
   pub linked_new : is_linked_in new t.next ≡ true
-  linked_new = linked_named new t.next (named_to new t.next u n entry_new)
+  linked_new = linked_named new t.next (named_to new t.next u n (entry_new t u n node parent opaque names below at))

@@ -1,15 +1,14 @@
 -- A shadow directory changes nothing of what its union shows.
-use Rattle.std.proofs.Common.{◌≡◌, ℕ, suc, ◌≤◌, ◌<◌, Bool, true, false, cond, ◌||◌, ◌==◌, List, [], ◌∷◌, refl, ap, sym, ◌∙◌, subst, arith}
-use Rattle.std.specs.Prelude.{Option, Some, None, IsSome, is_some, option_map, option_and_then}
+use Rattle.std.proofs.Common.{◌≡◌, ℕ, suc, ◌<◌, Bool, true, false, cond, List, [], ◌∷◌, refl, ap, sym, ◌∙◌, subst}
+use Rattle.std.specs.Prelude.{Option, Some, None, IsSome, option_map, option_and_then}
 use Rattle.std.specs.FinMap.{get}
-use Rattle.vfs_tree.specs.Child.{child_below, only_dir, below_named, low_case, low_within, low_by, steps}
+use Rattle.vfs_tree.specs.Child.{child_below, only_dir, low_by}
 use Rattle.vfs_tree.specs.Edits.{made, new_dir}
 use Rattle.vfs_tree.specs.Facts.{Facts}
-use Rattle.vfs_tree.specs.Layers.{is_dir, is_linked, linked_by, is_opaque, opaque_by, parent_by}
+use Rattle.vfs_tree.specs.Layers.{is_dir}
 use Rattle.vfs_tree.specs.Nodes.{entry_in}
 use Rattle.vfs_tree.specs.Place.{Seen, UnionUp, UnionLow, mount_of}
 use Rattle.vfs_tree.specs.Shown.{shown_low, shown_union, shown_within, shown_child, shown_along, shown_at, shown}
-use Rattle.vfs_tree.specs.Sound.{climb, LeadsUp}
 use Rattle.vfs_tree.specs.Views.{kind_of_node, facts_in, dir_in, facts_of}
 use Rattle.vfs_tree.specs.declared.mount.MountKind.{MountKind}
 use Rattle.vfs_tree.specs.declared.mount.MountKind.TheVariants as kind
@@ -21,29 +20,17 @@ use Rattle.vfs_tree.specs.declared.walk.Child.{Child}
 use Rattle.vfs_tree.specs.declared.walk.Child.TheVariants as child
 use Rattle.vfs_tree.specs.declared.world.World.{World}
 use Rattle.call_model.specs.Checks.{node_of}
-use Rattle.call_laws.proofs.MadeLaws.{linked_dir}
+use Rattle.call_laws.proofs.MadeLaws.{node_new, entry_new}
 use Rattle.call_laws.proofs.NamedLaws.{no_way}
 use Rattle.call_laws.proofs.PlaceLaws.{good_view}
 use Rattle.call_laws.proofs.Whole.{IsWhole}
-use Rattle.call_laws.proofs.WholeLaws.{well_store}
-use Rattle.model_laws.proofs.WayLaws.{ShortWay, short_way}
 use Rattle.layer_laws.proofs.LowerLaws.{Stands}
 use Rattle.layer_laws.proofs.NestLaws.{Under, shown_from, nests-below, shown_looking, shown_nests}
 use Rattle.layer_laws.proofs.AvoidLaws.{Avoids, none_along, need_along, avoids_dir, frame-within}
-use Rattle.layer_laws.proofs.MadeStores.{node_new, entry_new, entry_fresh, linked_new}
-use Rattle.layer_laws.proofs.UpperLaws.{IsMade, world_made, below, parts, free_in, store_new, unchanged, same_lower, same_beside, upper_shown, upper_then, entry_is, same_steps, beside, hidden_along, upper_shows}
-use Rattle.layer_laws.proofs.WayLaws.{low_more}
-use Rattle.layer_laws.proofs.TwinLaws.{plain_shows, dir_child, dir_shown, linked_u, other_u, node_made, made_at, other_top, other_root}
-
--- one step fewer than there are
-record Fewer : Type 0 where
-  pub fewer : ℕ
-  pub are : steps ≡ suc fewer
-  pub enough : 4294967294 ≤ fewer
-
-few : Fewer
-unfolding steps
-few = record { fewer = 4294967294; are = omega arith; enough = omega arith }
+use Rattle.layer_laws.proofs.MadeStores.{entry_fresh, linked_new}
+use Rattle.layer_laws.proofs.NewLower as news
+use Rattle.layer_laws.proofs.UpperLaws.{IsMade, world_made, below, parts, free_in, store_new, unchanged, same_beside, upper_then, hidden_along, upper_shows}
+use Rattle.layer_laws.proofs.TwinLaws.{plain_shows, dir_child, dir_shown, other_u, node_made, made_at, other_root}
 
 module _ (w : World) (h : IsWhole w) (m s top : ℕ) (lower : Seen) (u : ℕ) (n : List ℕ) (t : Store) (x : IsMade w m s top lower u n t (new_dir u false)) (hv : IsWhole (world_made w s u n t (new_dir u false)))
     (room : t.next < 4294967295) (d : Seen) (there : shown_child (facts_of w) (UnionUp m u) n ≡ child.At d) (dir : is_dir (facts_of w) d ≡ true) where
@@ -66,7 +53,7 @@ module _ (w : World) (h : IsWhole w) (m s top : ℕ) (lower : Seen) (u : ℕ) (n
   union_kind = Some (kind.Union s top lower)
 
   abbrev lower_child : Child
-  lower_child = child_below (shown_within m f) (low_by f (shown_within m f) u union_kind) n
+  lower_child = news.lower_child w h m s top lower u n t x hv room
 
   -- the lower layer shows the directory
   of_lower : (c : Child) → shown_low f m u n c ≡ child.At d → c ≡ child.At d
@@ -78,14 +65,8 @@ module _ (w : World) (h : IsWhole w) (m s top : ℕ) (lower : Seen) (u : ℕ) (n
   of_lower child.Absent e = absurd (let clash : child.Absent ≡ child.At d = e in cc)
   of_lower (child.Need y) e = absurd (let clash : child.Absent ≡ child.At d = e in cc)
 
-  of_union : shown_low f m u n lower_child ≡ child.At d
-  of_union =
-      sym (upper_shown w h m s top lower u n t (new_dir u false) x hv u n
-      ∙ ap (λ (e : Option NameEntry). shown_union f m u n e (child_below (shown_within m f) (low_by f (shown_within m f) u union_kind))) (entry_is w h m s top lower u n t (new_dir u false) x hv u n ∙ x.free))
-      ∙ there
-
   is_lower : lower_child ≡ child.At d
-  is_lower = of_lower lower_child of_union
+  is_lower = of_lower lower_child (news.shown_before w h m s top lower u n t x hv room ∙ there)
 
   under_d : Under f m d
   under_d =
@@ -114,14 +95,14 @@ module _ (w : World) (h : IsWhole w) (m s top : ℕ) (lower : Seen) (u : ℕ) (n
       let free = free_in w h m s top lower u n t (new_dir u false) x hv in
       let at : Bool → Option DirFacts = λ b. Some (record { parent = u; opaque = false; linked = b }) in
       ap (λ (o : Option Store). option_and_then (λ (t : Store). dir_in t i) o) (store_new w h m s top lower u n t (new_dir u false) x hv)
-      ∙ ap (option_and_then (facts_in new i)) (node_new t u n (new_dir u false) p.parent p.opaque p.names below p.at free x.fresh)
+      ∙ ap (option_and_then (facts_in new i)) (node_new t u n (new_dir u false) p.parent p.opaque p.names below p.at)
       ∙ ap at (linked_new t u n (new_dir u false) p.parent p.opaque p.names below p.at free x.fresh)
 
   entry_made : g.entry s u n ≡ Some (Ino i)
   entry_made =
       let p = parts w h m s top lower u n t (new_dir u false) x hv in
       ap (λ (o : Option Store). entry_in n (option_and_then (λ (t : Store). get t.nodes u) o)) (store_new w h m s top lower u n t (new_dir u false) x hv)
-      ∙ entry_new t u n (new_dir u false) p.parent p.opaque p.names (below w h m s top lower u n t (new_dir u false) x hv) p.at (free_in w h m s top lower u n t (new_dir u false) x hv) x.fresh
+      ∙ entry_new t u n (new_dir u false) p.parent p.opaque p.names (below w h m s top lower u n t (new_dir u false) x hv) p.at
 
   entry_none : (k : List ℕ) → g.entry s i k ≡ None
   entry_none k =
@@ -135,55 +116,11 @@ module _ (w : World) (h : IsWhole w) (m s top : ℕ) (lower : Seen) (u : ℕ) (n
 
   -- ---- its lower part
 
-  abbrev fewer : ℕ
-  fewer = few.fewer
-
-  linked_before : is_linked f s u ≡ true
-  linked_before = linked_u w h m s top lower u n t (new_dir u false) x hv
-
-  dir_same : f.dir s ≡ dir_in t
-  dir_same = let at : Option Store → ℕ → Option DirFacts = λ o d. option_and_then (λ (t : Store). dir_in t d) o in ap at x.store
-
-  way : ShortWay t u
-  way =
-      short_way t (well_store w h s t x.store) u (ap is_some (linked_dir t u (get t.nodes u) x.linked))
-      (subst (λ (dir : ℕ → Option DirFacts). LeadsUp dir u) dir_same ((h.sound.view.names s).lead u linked_before))
-
-  -- fewer steps up are enough
-  all_steps : low_within fewer f (shown_within m f) s top lower u ≡ low_by f (shown_within m f) u union_kind
-  all_steps =
-      let less : suc way.steps ≤ t.next = way.less in
-      let enough : 4294967294 ≤ fewer = few.enough in
-      low_more f (shown_within m f) s top lower way.steps fewer u (subst (λ (dir : ℕ → Option DirFacts). climb way.steps dir u ≡ 1) (sym dir_same) way.root) (omega (arith, less, room, enough))
-      ∙ ap (λ k. low_within k f (shown_within m f) s top lower u) (sym few.are)
-      ∙ sym (ap (λ (b : Bool). cond b (low_within steps f (shown_within m f) s top lower u) child.Absent) linked_before)
-
-  above_it : child_below (shown_within m g) (low_within fewer g (shown_within m g) s top lower u) n ≡ child.At d
-  above_it =
-      let a = same_steps w h m s top lower u n t (new_dir u false) x hv fewer u linked_before in
-      let l = same_lower w h m s top lower u n t (new_dir u false) x hv u other in
-      (beside w h m s top lower u n t (new_dir u false) x hv (low_within fewer g (shown_within m g) s top lower u) (low_by f (shown_within m f) u union_kind) (a.0 ∙ all_steps, l.1) n).0 ∙ is_lower
-
   only_d : only_dir g (child.At d) ≡ child.At d
   only_d = ap (λ (b : Bool). cond b (child.At d) child.Absent) (plain_dir d avoids_d ∙ dir)
 
-  low_steps : low_within (suc fewer) g (shown_within m g) s top lower i ≡ child.At d
-  low_steps =
-      let look = shown_within m g in
-      let up = low_within fewer g look s top lower in
-      ap (λ (b : Bool). low_case g look s lower up i b (is_opaque g s i || (i == 1))) (other_top w h m s top lower u n t (new_dir u false) x hv)
-      ∙ ap (λ (o : Option DirFacts). low_case g look s lower up i false (opaque_by o || (i == 1))) dir_new
-      ∙ ap (λ (b : Bool). low_case g look s lower up i false b) (other_root w h m s top lower u n t (new_dir u false) x hv)
-      ∙ ap (λ (o : Option DirFacts). only_dir g (below_named look (up (parent_by i o)) (g.name_of s i))) dir_new
-      ∙ ap (λ (o : Option (List ℕ)). only_dir g (below_named look (up u) o)) name_new
-      ∙ ap (only_dir g) above_it
-      ∙ only_d
-
   low_new : low_by g (shown_within m g) i union_kind ≡ child.At d
-  low_new =
-      ap (λ (o : Option DirFacts). cond (linked_by o) (low_within steps g (shown_within m g) s top lower i) child.Absent) dir_new
-      ∙ ap (λ k. low_within k g (shown_within m g) s top lower i) few.are
-      ∙ low_steps
+  low_new = news.low_new w h m s top lower u n t x hv room dir_new name_new ∙ ap (only_dir g) is_lower ∙ only_d
 
   -- ---- what it shows
 

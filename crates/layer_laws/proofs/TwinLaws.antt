@@ -21,12 +21,12 @@ use Rattle.vfs_tree.specs.declared.walk.Child.{Child}
 use Rattle.vfs_tree.specs.declared.walk.Child.TheVariants as child
 use Rattle.vfs_tree.specs.declared.world.World.{World}
 use Rattle.call_laws.proofs.FoundLaws.{IsGood, good_layers}
+use Rattle.call_laws.proofs.MadeLaws.{node_new}
 use Rattle.call_laws.proofs.NamedLaws.{no_way}
 use Rattle.call_laws.proofs.PlaceLaws.{good_view}
 use Rattle.call_laws.proofs.Whole.{IsWhole}
 use Rattle.layer_laws.proofs.AvoidLaws.{mem_kind}
-use Rattle.layer_laws.proofs.MadeStores.{node_new}
-use Rattle.layer_laws.proofs.UpperLaws.{IsMade, world_made, below, parts, free_in, store_new, linked_other, other_by}
+use Rattle.layer_laws.proofs.UpperLaws.{IsMade, world_made, below, parts, store_new, linked_other, other_by}
 
 -- ---- what is no directory shows nothing
 
@@ -111,7 +111,7 @@ module _ (w : World) (h : IsWhole w) (m s top : ℕ) (lower : Seen) (u : ℕ) (n
   node_made =
       let d = parts w h m s top lower u n t node x hv in
       ap (option_and_then (λ (t : Store). get t.nodes i)) (store_new w h m s top lower u n t node x hv)
-      ∙ node_new t u n node d.parent d.opaque d.names (below w h m s top lower u n t node x hv) d.at (free_in w h m s top lower u n t node x hv) x.fresh
+      ∙ node_new t u n node d.parent d.opaque d.names (below w h m s top lower u n t node x hv) d.at
 
   pub made_at : shown_at v (child.At (UnionUp m i)) ≡ Some (shown_node node)
   made_at = ap (λ (o : Option MountKind). option_map shown_node (node_at v (store_by o) i)) x.union ∙ ap (option_map shown_node) node_made

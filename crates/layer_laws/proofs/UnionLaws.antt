@@ -1,20 +1,19 @@
 -- Shadow directories and copies that calls need leave what their union shows.
-use Rattle.std.proofs.Common.{◌≡◌, ℕ, suc, ◌<◌, Bool, true, false, cond, List, [], ◌∷◌, refl, ap, sym, ◌∙◌, subst}
-use Rattle.std.specs.Prelude.{Option, Some, None, IsSome, IfSome, is_some, option_map, option_and_then}
+use Rattle.std.proofs.Common.{◌≡◌, ℕ, suc, ◌<◌, true, false, List, [], ◌∷◌, refl, ap, sym, ◌∙◌, subst}
+use Rattle.std.specs.Prelude.{Option, Some, None, IsSome, IfSome, option_map, option_and_then}
 use Rattle.std.specs.FinMap.{get}
-use Rattle.vfs_tree.specs.Child.{child_below, child_low, child_union, child_within, child_of, low, upper_entry}
+use Rattle.vfs_tree.specs.Child.{child_of}
 use Rattle.vfs_tree.specs.Edits.{made, with_store, new_dir}
 use Rattle.vfs_tree.specs.Facts.{Facts}
-use Rattle.vfs_tree.specs.Layers.{kind_in, store_by, root_by, root_of, is_cut, is_dir, is_dir_kind, kind_of, is_linked, linked_by}
+use Rattle.vfs_tree.specs.Layers.{kind_in, store_by, root_by, root_of, is_cut, is_dir, is_dir_kind, is_linked, linked_by}
 use Rattle.vfs_tree.specs.Nodes.{entry_in}
 use Rattle.vfs_tree.specs.Place.{Seen, Mem, UnionUp, UnionLow}
 use Rattle.vfs_tree.specs.Shown.{Shown, shown_child, shown_node, shown_at, shown}
 use Rattle.vfs_tree.specs.Shown as seen
-use Rattle.vfs_tree.specs.Sound.{is_union, IsSound}
-use Rattle.vfs_tree.specs.Views.{kind_of_node, facts_in, dir_in, facts_of}
+use Rattle.vfs_tree.specs.Sound.{IsSound}
+use Rattle.vfs_tree.specs.Views.{kind_of_node, dir_in, facts_of}
 use Rattle.vfs_tree.specs.declared.mount.MountKind.{MountKind}
 use Rattle.vfs_tree.specs.declared.mount.MountKind.TheVariants as kind
-use Rattle.vfs_tree.specs.declared.node.NameEntry.{NameEntry}
 use Rattle.vfs_tree.specs.declared.node.Node.{Node}
 use Rattle.vfs_tree.specs.declared.node.Node.TheVariants.{Dir, File, Link}
 use Rattle.vfs_tree.specs.declared.node.Store.{Store}
@@ -27,28 +26,19 @@ use Rattle.call_model.specs.declared.entry.Inner.TheVariants.{Shadow, CopyUp}
 use Rattle.call_laws.specs.Lasting.{IsLasting}
 use Rattle.call_laws.specs.Needing.{IsFree}
 use Rattle.call_laws.proofs.CopyLaws.{whole-above}
-use Rattle.call_laws.proofs.FoundLaws.{IsGood, GoodChild, ReadyChild, good_layers, good-child, ready-within}
+use Rattle.call_laws.proofs.FoundLaws.{IsGood, ReadyChild, good_layers, ready-within}
 use Rattle.call_laws.proofs.MadeLaws.{IsFresh}
 use Rattle.call_laws.proofs.NameLaws.{has_room}
-use Rattle.call_laws.proofs.NamedLaws.{no_way}
 use Rattle.call_laws.proofs.PlaceLaws.{good_view}
 use Rattle.call_laws.proofs.ShownLaws.{shown_there}
 use Rattle.call_laws.proofs.Whole.{IsWhole}
 use Rattle.call_laws.proofs.WholeLaws.{HasRoom}
 use Rattle.layer_laws.specs.Apart.{IsApart}
-use Rattle.layer_laws.proofs.LowerLaws.{Stands}
-use Rattle.layer_laws.proofs.NestLaws.{Under, child_from, nests-lower, child_looking, child_nests}
+use Rattle.layer_laws.proofs.CopiedLaws as copied
+use Rattle.layer_laws.proofs.CopiedLaws.{HasStore, there_store}
 use Rattle.layer_laws.proofs.ShadowLaws.{shadow_upper}
 use Rattle.layer_laws.proofs.CopyTwins.{copy_upper, fresh_copy}
 use Rattle.layer_laws.proofs.UpperLaws.{IsMade, world_made}
-
-record HasStore (o : Option Store) : Type 0 where
-  pub store : Store
-  pub at : o ≡ Some store
-
-there_store : (u : ℕ) (o : Option Store) → linked_by (option_and_then (λ (t : Store). dir_in t u) o) ≡ true → HasStore o
-there_store u (Some t) e = record { store = t; at = refl }
-there_store u None e = no_way e
 
 -- ---- a node that is made in the upper layer
 
@@ -107,75 +97,13 @@ module _ (w : World) (h : IsWhole w) (apart : IsApart w) (m s top : ℕ) (lower 
   -- ---- a copy
 
   module _ (q : Seen) (there : child_of f (UnionUp m u) n ≡ child.At (UnionLow m u n q)) where
-    good_dir : IsGood f (UnionUp m u)
-    good_dir = record {
-      sound = record { mounts = ap is_union is; base = ap (λ (o : Option MountKind). is_some (f.kind (store_by o) u)) is ∙ dir_there (get w.stores s) linked_in; files = tt };
-      uncut = cut;
-      over = tt;
-      ready = tt;
-    }
-      where
-        node_there : (t : Store) (o : Option Node) → linked_by (option_and_then (facts_in t u) o) ≡ true → IsSome (option_map kind_of_node o)
-        node_there t (Some y) e = refl
-        node_there t None e = no_way e
-
-        dir_there : (o : Option Store) → linked_by (option_and_then (λ (t : Store). dir_in t u) o) ≡ true → IsSome (option_map kind_of_node (option_and_then (λ (t : Store). get t.nodes u) o))
-        dir_there (Some t) e = node_there t (get t.nodes u) e
-        dir_there None e = no_way e
-
-    known : IsSome (kind_of f q)
-    known =
-        let c : GoodChild f (good_view w h.sound h.lasts) m (child.At (UnionLow m u n q)) = subst (GoodChild f (good_view w h.sound h.lasts) m) there (good-child f (good_view w h.sound h.lasts) (UnionUp m u) n good_dir) in
-        c.0.sound.base
-
-    -- what the lower layer has there
-    abbrev below : Child
-    below = child_below (child_within m f) (low f m u) n
-
-    below_low : child_low f m u n below ≡ child.At (UnionLow m u n q)
-    below_low =
-        sym (ap (λ (e : Option NameEntry). child_union f m u n e (child_below (child_within m f) (low f m u))) (ap (λ (o : Option MountKind). upper_entry f o u n) is ∙ free_in)) ∙ there
-
-    abbrev under : Child → Seen
-    under (child.At (UnionLow a b k p)) = p
-    under (child.At p) = p
-    under child.Absent = q
-    under (child.Need y) = q
-
-    record IsCopied (c : Child) : Type 0 where
-      pub at : c ≡ child.At q
-      pub plain : is_dir f q ≡ false
-
-    copied : (c : Child) → child_low f m u n c ≡ child.At (UnionLow m u n q) → IsCopied c
-    copied (child.At p) e = by (is_dir f p) refl e
-      where
-        by : (b : Bool) → is_dir f p ≡ b → cond b (child.Need (record { mount = m; dir = u; name = n })) (child.At (UnionLow m u n p)) ≡ child.At (UnionLow m u n q) → IsCopied (child.At p)
-        by true d e = absurd (let clash : child.Need (record { mount = m; dir = u; name = n }) ≡ child.At (UnionLow m u n q) = e in cc)
-        by false d e = let same : p ≡ q = ap under e in record { at = ap child.At same; plain = ap (is_dir f) (sym same) ∙ d }
-    copied child.Absent e = absurd (let clash : child.Absent ≡ child.At (UnionLow m u n q) = e in cc)
-    copied (child.Need y) e = absurd (let clash : child.Need y ≡ child.At (UnionLow m u n q) = e in cc)
-
-    is_copied : IsCopied below
-    is_copied = copied below below_low
-
-    -- also where as many mounts are passed as there are
-    same_below : (c : Child) → Stands (Under f m) c → child_below (child_of f) c n ≡ child_below (child_within m f) c n
-    same_below (child.At d) a = sym (child_from f (good_view w h.sound h.lasts) m d n a.0 a.1)
-    same_below child.Absent a = refl
-    same_below (child.Need y) a = refl
-
-    copied_is : child_below (child_of f) (low f m u) n ≡ child.At q
-    copied_is =
-        let view = good_view w h.sound h.lasts in
-        same_below (low f m u) (nests-lower f view (λ k. child_within k f) (child_union f) (child_looking f) (child_within m f) (child_nests f view m) m u cut (kind_in f m) refl) ∙ is_copied.at
-
     pub copy_at : (c r : ℕ) → IsSome (f.kind s r) → (ns : List (List ℕ)) → shown (effect w c (CopyUp m u n)) (UnionUp m r) ns ≡ shown w (UnionUp m r) ns
     copy_at c r has ns =
         let node : Node = copy_of (node_of w q) in
         let fresh = fresh_copy u (node_of w q) in
-        ap (λ (c : Child). shown (copied_child w m u n c) (UnionUp m r) ns) copied_is
+        ap (λ (c : Child). shown (copied_child w m u n c) (UnionUp m r) ns) (copied.copied_is w h m s top lower is cut u n q there)
         ∙ ap (λ (v : World). shown v (UnionUp m r) ns) (made_is node fresh)
-        ∙ copy_upper w h m s top lower u n t q (is_made node fresh) (made_whole node fresh) (shown_there f (UnionUp m u) n (UnionLow m u n q) there) is_copied.plain known r has ns
+        ∙ copy_upper w h m s top lower u n t q (is_made node fresh) (made_whole node fresh) (shown_there f (UnionUp m u) n (UnionLow m u n q) there) (copied.plain w h m s top lower is cut u n q there) (copied.known w h m s top lower is cut u n q there) r has ns
 
 -- ---- at the root of the union
 

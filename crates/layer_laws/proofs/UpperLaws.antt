@@ -26,14 +26,14 @@ use Rattle.vfs_tree.specs.declared.view.DirFacts.{DirFacts}
 use Rattle.vfs_tree.specs.declared.walk.Child.{Child}
 use Rattle.vfs_tree.specs.declared.walk.Child.TheVariants as child
 use Rattle.vfs_tree.specs.declared.world.World.{World}
-use Rattle.call_laws.proofs.MadeLaws.{IsFresh, none_some, linked_dir}
+use Rattle.call_laws.proofs.MadeLaws.{IsFresh, none_some, linked_dir, unused}
 use Rattle.call_laws.proofs.NamedLaws.{no_way}
 use Rattle.call_laws.proofs.SoundMade.{IsDirAt, dir_at}
 use Rattle.call_laws.proofs.Whole.{IsWhole}
 use Rattle.model_laws.proofs.LinkLaws.{linked_above}
 use Rattle.layer_laws.proofs.LowerLaws.{Stands, alike_low, alike_lower, alike_below}
 use Rattle.layer_laws.proofs.AvoidLaws.{Avoids, SameBut, none_along, other_store, lower_avoids, avoids_dir, frame-shown_low, frame-within, same_but, same_along}
-use Rattle.layer_laws.proofs.MadeStores.{unused, entry_case, entry_stays, shown_else, kind_else, dir_else}
+use Rattle.layer_laws.proofs.MadeStores.{entry_case, entry_stays, shown_else, kind_else, dir_else}
 
 -- what is given of the union, of the name and of the node that is made
 pub record IsMade (w : World) (m s top : ℕ) (lower : Seen) (u : ℕ) (n : List ℕ) (t : Store) (node : Node) : Type 0 where
@@ -98,7 +98,7 @@ module _ (w : World) (h : IsWhole w) (m s top : ℕ) (lower : Seen) (u : ℕ) (n
   entry_then d k = ap (entry_by d k) store_new
 
   none_there : f.kind s i ≡ None
-  none_there = ap (kind_by i) x.store ∙ ap (option_map kind_of_node) (unused t u n node parts.parent parts.opaque parts.names below parts.at free_in x.fresh)
+  none_there = ap (kind_by i) x.store ∙ ap (option_map kind_of_node) (unused t u n node parts.parent parts.opaque parts.names below parts.at)
 
   -- a node that is there isn't the new one
   pub other_by : (d : ℕ) → IsSome (f.kind s d) → d ≡ i → ⊥

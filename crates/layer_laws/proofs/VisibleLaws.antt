@@ -25,8 +25,7 @@ use Rattle.call_laws.specs.Lasting.{IsOver, IsUncut, IsLasting}
 use Rattle.call_laws.proofs.FoundLaws.{IsGood, IsGoodView, under_null, dir_ready}
 use Rattle.call_laws.proofs.NamedLaws.{no_way}
 use Rattle.call_laws.proofs.PlaceLaws.{good_view}
-use Rattle.call_laws.proofs.ShownLaws.{Agree}
-use Rattle.layer_laws.proofs.AgreeLaws.{agree-low_by, agree-within}
+use Rattle.call_laws.proofs.ShownLaws.{Agree, agree-low_by, agree-within}
 use Rattle.layer_laws.proofs.BaseLaws.{is_there, something_shown, shown_something}
 use Rattle.layer_laws.proofs.LowerLaws.{Stands}
 use Rattle.layer_laws.proofs.NamesLaws.{names_are, none_in, given_from, given_to, merged_upper, upper_merged, merged_lower, lower_merged}
@@ -114,7 +113,7 @@ module _ (w : World) (view : IsGoodView (facts_of w)) where
   lists_kind k m u lists less cut (Some (kind.Union s top lower)) is union names e n =
       let low : Option MountKind = Some (kind.Union s top lower) in
       lists_part k m u s lists less (names_at w s u) n (names_are n (node_at w s u)) (low_by f (child_within m f) u low) (low_by f (shown_within m f) u low)
-      (agree-low_by f (child_within m f) (shown_within m f) (agree-within m f) u low) (lower_part f view m m s top lower (omega arith) is cut u) names e
+      (agree-low_by f (child_within m f) (shown_within m f) (agree-within m f) u low) (lower_part f view m m s top lower is cut u) names e
   lists_kind k m u lists less cut (Some kind.Mem) is union names e n = no_way union
   lists_kind k m u lists less cut (Some (kind.Null layer)) is union names e n = no_way union
   lists_kind k m u lists less cut None is union names e n = no_way union

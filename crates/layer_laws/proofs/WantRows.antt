@@ -2,24 +2,20 @@
 use Rattle.std.proofs.Common.{◌≡◌, ℕ, true, false, List, [], ◌∷◌, refl, subst}
 use Rattle.std.specs.Prelude.{Option, Some, None, IfSome, option_map}
 use Rattle.vfs_tree.specs.Layers.{base, is_cut, is_dir_kind}
-use Rattle.vfs_tree.specs.Child.{low}
 use Rattle.vfs_tree.specs.Nodes.{node_at}
 use Rattle.vfs_tree.specs.Place.{Seen, Mem, Null, UnionUp, UnionLow, bare}
 use Rattle.vfs_tree.specs.Shown.{shown_child, shown_node, shown_at, shown}
 use Rattle.vfs_tree.specs.Shown as seen
 use Rattle.vfs_tree.specs.Sound.{IsSound}
 use Rattle.vfs_tree.specs.Views.{kind_of_node, facts_of}
-use Rattle.vfs_tree.specs.Visible.{visible, has_visible}
 use Rattle.vfs_tree.specs.declared.node.Node.{Node}
 use Rattle.vfs_tree.specs.declared.node.Node.TheVariants.{Dir, File, Link}
 use Rattle.vfs_tree.specs.declared.walk.Child.{Child}
 use Rattle.vfs_tree.specs.declared.walk.Child.TheVariants as child
 use Rattle.vfs_tree.specs.declared.walk.Found.{Found}
 use Rattle.vfs_tree.specs.declared.walk.Found.TheVariants as found
-use Rattle.vfs_tree.specs.declared.walk.Need.{Need}
 use Rattle.vfs_tree.specs.declared.walk.NodeId.{NodeId}
-use Rattle.vfs_tree.specs.declared.walk.Step.{Step}
-use Rattle.vfs_tree.specs.declared.walk.Step.TheVariants.{Go, Refuse, Wants}
+use Rattle.vfs_tree.specs.declared.walk.Step.TheVariants.{Wants}
 use Rattle.vfs_tree.specs.declared.world.World.{World}
 use Rattle.call_model.specs.Checks.{Doing}
 use Rattle.call_model.specs.Rows.{first_way, second_way, first_found, second_found, row}
@@ -30,13 +26,13 @@ use Rattle.call_model.specs.declared.entry.Inner.TheVariants.{Shadow, CopyUp, De
 use Rattle.call_model.specs.declared.reply.Reply.{Reply}
 use Rattle.call_laws.specs.Lasting.{IsLasting}
 use Rattle.call_laws.specs.Needing.{IsFree}
+use Rattle.call_laws.proofs.ChildInduction.{Anything}
 use Rattle.call_laws.proofs.MountParts.{FreeInner}
 use Rattle.call_laws.proofs.Parts.{Keeps, Any}
 use Rattle.call_laws.proofs.PlaceLaws.{good_view}
 use Rattle.call_laws.proofs.RowLaws.{row_free}
-use Rattle.layer_laws.proofs.NeedRows.{StepNeeds, ChildNeeds, LowNeeds, FoundNeeds, ReadsSo, want_readdir, want_row}
-use Rattle.layer_laws.proofs.WantLaws.{DirAt, DirShown, WantChild, want-low}
-use Rattle.layer_laws.proofs.WantWalks.{Wanted, WantFound, want-found, want-visible, want-has_visible}
+use Rattle.layer_laws.proofs.NeedRows.{FoundAsks, LowAsks, ReadsSo, any_copy, want_readdir, want_row}
+use Rattle.layer_laws.proofs.WantLaws.{DirAt, DirShown, WantNeed, WantFound, want-low, want-found, want-visible, want-has_visible}
 
 -- a shadow directory is for a directory that its union shows
 abbrev pub ShowsDir : World → Inner → Type 0
@@ -45,29 +41,12 @@ ShowsDir w (CopyUp m u n) = Unit {0}
 ShowsDir w (Detach m) = Unit {0}
 ShowsDir w (Doom at) = Unit {0}
 
-abbrev Anywhere : Seen → Type 0
-Anywhere p = Unit {0}
-
 module _ (w : World) where
-  abbrev Steps : {A : Type 0} → Step A Need → Type 0
-  Steps m = StepNeeds w (ShowsDir w) (λ m u n. tt) (λ m. tt) (λ at. tt) Anywhere m
-
-  abbrev Finds : Found → Type 0
-  Finds a = FoundNeeds w (ShowsDir w) (λ m u n. tt) (λ m. tt) (λ at. tt) Anywhere a
-
-  abbrev Lows : Seen → Type 0
-  Lows p = LowNeeds w (ShowsDir w) (λ m u n. tt) (λ m. tt) (λ at. tt) Anywhere p
-
-  steps_so : {A : Type 0} (m : Step A Need) → Wanted (facts_of w) m → Steps m
-  steps_so (Go a) h = tt
-  steps_so (Refuse e) h = tt
-  steps_so (Wants x) h = h
-
-  some_place : (o : Option Seen) → IfSome o Anywhere
+  some_place : (o : Option Seen) → IfSome o Anything
   some_place (Some p) = tt
   some_place None = tt
 
-  finds_so : (a : Found) → WantFound (facts_of w) a → Finds a
+  finds_so : (a : Found) → WantFound (facts_of w) a → FoundAsks (WantNeed (facts_of w)) Anything a
   finds_so (found.At p) h = tt
   finds_so (found.In d n c) h = some_place c
   finds_so (found.Dot d) h = tt
@@ -75,24 +54,21 @@ module _ (w : World) where
   finds_so (found.Refused e) h = tt
   finds_so (found.Need x) h = h
 
-  child_so : (c : Child) → WantChild (facts_of w) c → ChildNeeds w (ShowsDir w) (λ m u n. tt) (λ m. tt) (λ at. tt) Anywhere c
-  child_so (child.At p) h = tt
-  child_so child.Absent h = tt
-  child_so (child.Need x) h = h
-
-  lows_so : (p : Seen) → Lows p
+  lows_so : (p : Seen) → LowAsks w (WantNeed (facts_of w)) p
   lows_so (Mem m i) = tt
   lows_so (Null m p) = tt
-  lows_so (UnionUp m i) = child_so (low (facts_of w) m i) (want-low (facts_of w) m i)
+  lows_so (UnionUp m i) = want-low (facts_of w) m i
   lows_so (UnionLow m u n p) = tt
 
-  reads_so : (c : ℕ) (call : Call) → ReadsSo w (ShowsDir w) (λ m u n. tt) (λ m. tt) (λ at. tt) Anywhere (λ d g. steps_so (has_visible w d) (want-has_visible w d)) (λ d g. lows_so (bare d)) c call
-  reads_so c (call.Readdir d) = want_readdir w (ShowsDir w) (λ m u n. tt) (λ m. tt) (λ at. tt) Anywhere c d (λ o is alive dir. steps_so (visible w o.place) (want-visible w o.place))
+  reads_so : (c : ℕ) (call : Call) → ReadsSo w (ShowsDir w) c call
+  reads_so c (call.Readdir d) =
+      want_readdir w (ShowsDir w) (WantNeed (facts_of w)) Anything (λ x h _. h) (λ p _. any_copy w (ShowsDir w) (λ m u n. tt) p) (λ m. tt) (λ at. tt) c d (λ o is alive dir. want-visible w o.place)
   reads_so c _ = tt
 
   asks_row : (c : ℕ) (call : Call) → Keeps Any (ShowsDir w) (row w c call)
   asks_row c call =
-      want_row w (ShowsDir w) (λ m u n. tt) (λ m. tt) (λ at. tt) Anywhere (λ d g. steps_so (has_visible w d) (want-has_visible w d)) (λ d g. lows_so (bare d)) c call
+      want_row w (ShowsDir w) (WantNeed (facts_of w)) Anything (λ x h _. h) (λ p _. any_copy w (ShowsDir w) (λ m u n. tt) p) (λ m. tt) (λ at. tt)
+      (λ d g. want-has_visible w d) (λ d g. lows_so (bare d)) c call
       (finds_so (first_found w c call) (want-found w c (first_way call))) (finds_so (second_found w c call) (want-found w c (second_way call))) (reads_so c call)
 
   -- ---- what is shown

@@ -1,5 +1,3 @@
 pub mod Apart
-pub mod OpenFiles
-pub mod Deepest
 pub mod Listings
 pub mod Lying

@@ -1,3 +1,4 @@
+// Edits through a union leave what its lower layer shows.
 ghost use Rattle.std.specs.Prelude.{◌≡◌, ℕ, List, Some, false};
 ghost use Rattle.vfs_tree.specs.Layers.{is_cut, kind_in};
 ghost use Rattle.vfs_tree.specs.Place.{Seen, UnionLow, UnionUp, bare};

@@ -4,21 +4,17 @@
 #![tactic(auto)]
 
 mod apart;
-mod dooms;
 mod hidden;
 mod lying;
 mod names;
 mod nulls;
-mod opens;
 mod shadows;
 mod unions;
 
 pub use apart::layers_stay_apart;
-pub use dooms::the_deepest_reference_is_doomed_first;
 pub use hidden::edits_through_a_union_leave_its_lower_layer;
 pub use lying::{an_unmount_leaves_layers_whole, layers_lie_over_lower_layers};
 pub use names::visible_names_are_those_shown;
 pub use nulls::{a_null_mount_shows_its_layer, an_edit_through_a_null_mount_is_that_of_its_layer};
-pub use opens::a_copy_joins_no_open_files;
 pub use shadows::a_shadow_directory_stands_for_one_that_is_shown;
 pub use unions::{a_copy_changes_nothing_shown, a_shadow_directory_changes_nothing_shown};

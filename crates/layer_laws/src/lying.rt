@@ -1,3 +1,4 @@
+// The layers of a mount lie over the mounts of their lower layers, and an unmount leaves them whole.
 ghost use Rattle.std.specs.Prelude.{◌≡◌, ℕ, List};
 ghost use Rattle.vfs_tree.specs.Sound.{IsSound};
 ghost use Rattle.vfs_tree.specs.Start.{start_world};

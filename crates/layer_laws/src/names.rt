@@ -1,3 +1,4 @@
+// A directory lists the names of the tree that it shows.
 ghost use Rattle.std.specs.Prelude.{◌≡◌, ◌∷◌, ◌↔◌, ℕ, List, [], IsSome};
 ghost use Rattle.std.specs.List.{Contains};
 ghost use Rattle.vfs_tree.specs.Place.{Seen};

@@ -1,3 +1,4 @@
+// A null mount shows its layer, and an edit through it is the layer's.
 ghost use Rattle.std.specs.Prelude.{◌≡◌, ℕ, List, Option, Some, false, option_map};
 ghost use Rattle.vfs_tree.specs.Layers.{is_cut, kind_in, root_of};
 ghost use Rattle.vfs_tree.specs.Place.{Null, Seen, mount_of};

@@ -1,3 +1,4 @@
+// A shadow directory that is needed stands for a directory of the lower layer.
 ghost use Rattle.std.specs.Prelude.{◌≡◌, ◌∷◌, ℕ, List, [], Some, true, false};
 ghost use Rattle.vfs_tree.specs.Layers.{is_cut};
 ghost use Rattle.vfs_tree.specs.Place.{UnionUp};

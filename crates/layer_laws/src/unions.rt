@@ -1,3 +1,4 @@
+// Shadow directories and copies change nothing of what their union shows.
 ghost use Rattle.std.specs.Prelude.{◌≡◌, ◌∷◌, ℕ, List, [], Some, IsSome, false};
 ghost use Rattle.vfs_tree.specs.Child.{child_of};
 ghost use Rattle.vfs_tree.specs.Layers.{is_cut, kind_in, root_of};

@@ -1,13 +1,6 @@
 pub mod Leaving
 pub mod AlikeLaws
-pub mod CwdLaws
 pub mod FileLaws
 pub mod LinkLaws
 pub mod UnmountLaws
-pub mod CoverLaws
-pub mod ByteViews
-pub mod FoldLaws
-pub mod AddLaws
 pub mod FuelLaws
-pub mod MemLaws
-pub mod WayLaws

@@ -1,18 +1,15 @@
 -- What is left when a mount goes.
-use Rattle.std.proofs.Common.{◌≡◌, ℕ, Bool, true, false, cond, not, ◌&&◌, ◌||◌, ◌==◌, List, [], ◌∷◌, ◌++◌, map, refl, ap, sym, ◌∙◌, subst, nat_cmp, eq-eqb}
-use Rattle.std.specs.Prelude.{Option, Some, None, IsSome, IfSome, is_some, option_map}
-use Rattle.std.specs.List.{list_any, filter, fold}
+use Rattle.std.proofs.Common.{◌≡◌, ℕ, Bool, true, false, cond, not, ◌&&◌, ◌||◌, ◌==◌, List, refl, ap, sym, ◌∙◌, subst, nat_cmp, eq-eqb}
+use Rattle.std.specs.Prelude.{Option, Some, None, IsSome, IfSome, option_map}
+use Rattle.std.specs.List.{list_any}
 use Rattle.std.specs.Cmp.{nat_cmp_total}
 use Rattle.std.specs.Ordering.{eq_by_cmp}
-use Rattle.std.specs.FinMap.{FinMap, get, remove, entries, values, get-remove}
-use Rattle.std.proofs.lemmas.Map.Lookups.{exact_unsigned}
-use Rattle.finite_maps.specs.Keys.{pair_cmp}
-use Rattle.vfs_tree.specs.Facts.{Facts}
-use Rattle.vfs_tree.specs.Layers.{kind_in, store_by, base, kind_of, is_dir_kind}
-use Rattle.vfs_tree.specs.Mounts.{is_left, layers, is_of, covers_in, is_on_in, is_open_in, is_cwd_in, is_mounted_in, has_references, is_covered}
+use Rattle.std.specs.FinMap.{FinMap, get, remove, get-remove}
+use Rattle.vfs_tree.specs.Layers.{kind_in, store_by, base}
+use Rattle.vfs_tree.specs.Mounts.{is_left, layers, covers_in, is_on_in, has_references, is_covered}
 use Rattle.vfs_tree.specs.Nodes.{node_at}
 use Rattle.vfs_tree.specs.Place.{Seen, Mem, Null, UnionUp, UnionLow, mount_of}
-use Rattle.vfs_tree.specs.Sound.{is_mem, is_null, is_union, names_mounts, AreFiles, IsSoundPlace, IsSoundDir, EachLayer, EachPlace, IsSound}
+use Rattle.vfs_tree.specs.Sound.{is_null, is_union, names_mounts, IsSoundPlace, IsSoundDir, EachLayer, EachPlace, IsSound}
 use Rattle.vfs_tree.specs.Views.{facts_of}
 use Rattle.vfs_tree.specs.declared.mount.Mount.{Mount}
 use Rattle.vfs_tree.specs.declared.mount.MountKind.{MountKind}
@@ -27,20 +24,19 @@ use Rattle.call_model.specs.Apply.{Finished, apply}
 use Rattle.call_model.specs.Checks.{Outcome, is_full, upper_store, mount_at}
 use Rattle.call_model.specs.Legal.{after}
 use Rattle.call_model.specs.MountRows as rows
-use Rattle.call_model.specs.Refs.{Reference, open_reference, cwd_reference, open_references, references, first_case, first_of_two, stands_first, first, first_in}
+use Rattle.call_model.specs.Refs.{first_in}
 use Rattle.call_model.specs.Rows.{first_found}
 use Rattle.call_model.specs.declared.call.Call.TheVariants as call
 use Rattle.call_model.specs.declared.entry.Entry.TheVariants as entry
 use Rattle.call_model.specs.declared.entry.Ref.{Ref}
 use Rattle.call_model.specs.declared.reply.Reply.{Reply}
 use Rattle.call_model.specs.declared.reply.Reply.TheVariants as reply
-use Rattle.call_laws.specs.Lasting.{lower_mount, IsOver, IsLasting}
-use Rattle.call_laws.proofs.DetachLaws.{IsLayer, is_layer}
+use Rattle.call_laws.specs.Lasting.{IsLasting}
 use Rattle.call_laws.proofs.NamedLaws.{no_way, value_any}
 use Rattle.call_laws.proofs.Parts.{Keeps, found_so, refused, needed, weaker, then, unless}
-use Rattle.call_laws.proofs.SoundParts.{first_of, second_of, both_of, if_each, each_place, or_none, not_so}
+use Rattle.call_laws.proofs.SoundParts.{second_of, both_of, if_each, each_place, or_none, not_so}
 use Rattle.call_laws.proofs.SoundRows.{LeavesSo, AnyNeed}
-use Rattle.call_laws.proofs.WeightLaws.{equal}
+use Rattle.call_laws.proofs.UmountLaws.{free_sound, other_mount, unmounted, names_not, open_apart, cwd_apart}
 use Rattle.call_laws.proofs.WorldLaws.{sound_call}
 use Rattle.model_laws.specs.Unmounted.{StaysWhole, AllStay, StaysThere, LayersStay, NoneIn}
 use Rattle.model_laws.proofs.Leaving.{past, left-so, done-so}
@@ -87,12 +83,6 @@ fewer_after w c text r = after_umount (Fewer w) w c text r (fewer_itself w) (λ 
 -- mounts alone are changed
 pub mounts_alone : (w : World) (c : ℕ) (text : List ℕ) (r : Reply) → let new = after w (entry.Call c (call.Umount text) r) in new ≡ record w { mounts = new.mounts }
 mounts_alone w c text r = (fewer_after w c text r).alone
-
-other_mount : (mounts : FinMap nat_cmp Mount) (m n : ℕ) → (n ≡ m → ⊥) → get (remove mounts m) n ≡ get mounts n
-other_mount mounts m n ne = get-remove nat_cmp_total mounts m n ∙ (elim (eq_by_cmp nat_cmp n m) as (λ b. eq_by_cmp nat_cmp n m ≡ b → cond b None (get mounts n) ≡ get mounts n) [
-  | true ↦ λ e. absurd (ne (exact_unsigned n m (equal _ e)))
-  | false ↦ λ _. refl
-] refl)
 
 -- the mounts for which the path doesn't stand are as they were
 pub others_stay : (w : World) (c n : ℕ) (text : List ℕ) (r : Reply) → (first_found w c (call.Umount text) ≡ found.Mount n → ⊥)
@@ -187,53 +177,17 @@ module _ (w : World) (m : ℕ) (free : has_references w m ≡ false) where
   abbrev gone : World
   gone = rows.without_mount w m
 
-  unmounted : is_mounted_in w m ≡ false
-  unmounted = (or_none (is_cwd_in w m) (is_mounted_in w m) (or_none (is_open_in w m) (is_cwd_in w m || is_mounted_in w m) free).1).1
-
   -- no mount covers a place of it, or has a layer in it
   apart : (n : ℕ) (t : Mount) → get w.mounts n ≡ Some t → (covers_in w.leaving (λ n. n == m) t ≡ false) × (list_any (λ l. l == m) (layers t.kind) ≡ false)
   apart n t at =
       let test : Mount → Bool = λ t. covers_in w.leaving (λ n. n == m) t || list_any (λ l. l == m) (layers t.kind) in
-      or_none (covers_in w.leaving (λ n. n == m) t) (list_any (λ l. l == m) (layers t.kind)) (not_so (test t) (λ is. no_way (sym unmounted ∙ value_any nat_cmp test w.mounts n t at is)))
-
-  no_layer : (n : ℕ) (o : Option Mount) → get w.mounts n ≡ o → (l : ℕ) → IsLayer o l → l ≡ m → ⊥
-  no_layer n (Some t) at l layer is = no_way (sym (apart n t at).1 ∙ layer (λ l. l == m) (eq-eqb l m is))
-  no_layer n None at l layer is = no_way (layer (λ l. true) refl)
-
-  lower_apart : (n l : ℕ) → lower_mount (kind_in (facts_of w) n) ≡ Some l → l ≡ m → ⊥
-  lower_apart n l e = no_layer n (get w.mounts n) refl l (is_layer (get w.mounts n) (kind_in (facts_of w) n) l refl e)
+      or_none (covers_in w.leaving (λ n. n == m) t) (list_any (λ l. l == m) (layers t.kind)) (not_so (test t) (λ is. no_way (sym (unmounted w m free) ∙ value_any nat_cmp test w.mounts n t at is)))
 
   kind_still : (n : ℕ) → (n ≡ m → ⊥) → kind_in (facts_of gone) n ≡ kind_in (facts_of w) n
   kind_still n ne = ap (option_map (λ (t : Mount). t.kind)) (other_mount w.mounts m n ne)
 
-  names_still : (p : Seen) → (mount_of p ≡ m → ⊥) → IsOver (facts_of w) p → names_mounts (facts_of w) p ≡ true → names_mounts (facts_of gone) p ≡ true
-  names_still (Mem n i) ne over h = ap is_mem (kind_still n ne) ∙ h
-  names_still (Null n p) ne over h =
-      both_of (is_null (kind_in (facts_of gone) n)) (names_mounts (facts_of gone) p)
-      (ap is_null (kind_still n ne) ∙ first_of (is_null (kind_in (facts_of w) n)) (names_mounts (facts_of w) p) h)
-      (names_still p (lower_apart n (mount_of p) over.0) over.1 (second_of (is_null (kind_in (facts_of w) n)) (names_mounts (facts_of w) p) h))
-  names_still (UnionUp n i) ne over h = ap is_union (kind_still n ne) ∙ h
-  names_still (UnionLow n u a p) ne over h =
-      both_of (is_union (kind_in (facts_of gone) n)) (names_mounts (facts_of gone) p)
-      (ap is_union (kind_still n ne) ∙ first_of (is_union (kind_in (facts_of w) n)) (names_mounts (facts_of w) p) h)
-      (names_still p (lower_apart n (mount_of p) over.0) over.1 (second_of (is_union (kind_in (facts_of w) n)) (names_mounts (facts_of w) p) h))
-
-  node_still : (p : Seen) → names_mounts (facts_of gone) p ≡ true → kind_of (facts_of gone) p ≡ kind_of (facts_of w) p
-  node_still p h = ap (λ (b : NodeId). (facts_of w).kind b.store b.ino) (same_base w gone (fewer_without w m) p h)
-
-  files_still : (p : Seen) → names_mounts (facts_of gone) p ≡ true → AreFiles (facts_of w) p → AreFiles (facts_of gone) p
-  files_still (Mem n i) h files = tt
-  files_still (Null n p) h files = files_still p (second_of (is_null (kind_in (facts_of gone) n)) (names_mounts (facts_of gone) p) h) files
-  files_still (UnionUp n i) h files = tt
-  files_still (UnionLow n u a p) h files =
-      let lower : names_mounts (facts_of gone) p ≡ true = second_of (is_union (kind_in (facts_of gone) n)) (names_mounts (facts_of gone) p) h in
-      (ap is_dir_kind (node_still p lower) ∙ files.0, files_still p lower files.1)
-
   stays_there : (p : Seen) → (mount_of p ≡ m → ⊥) → StaysThere w gone p
-  stays_there p ne sound over =
-      let names : names_mounts (facts_of gone) p ≡ true = names_still p ne over sound.mounts in
-      stays w gone (fewer_without w m) p
-      (record { mounts = names; base = ap is_some (node_still p names) ∙ sound.base; files = files_still p names sound.files })
+  stays_there p ne sound over = stays w gone (fewer_without w m) p (free_sound (facts_of w) (facts_of gone) m kind_still (λ s i. refl) p (names_not w m free p over ne) sound)
 
   layers_there : (k : MountKind) → list_any (λ l. l == m) (layers k) ≡ false → EachLayer (StaysThere w gone) k
   layers_there kind.Mem h = tt
@@ -274,70 +228,6 @@ pub layers_stay : (w : World) (c : ℕ) (text : List ℕ) (r : Reply) → Layers
 layers_stay w c text r = after_umount (LayersStay w) w c text r (layers_itself w) (λ m _ free. layers_gone w m free)
 
 -- ---- a forced unmount
-
-fold_some : (f : Facts) (best : Reference) (rs : List Reference) → is_some (fold (first_of_two f) (Some best) rs) ≡ true
-fold_some f best [] = refl
-fold_some f best (r ∷ rs) = by (stands_first f r best) (λ x. fold_some f x rs)
-  where
-    by : (b : Bool) → ((x : Reference) → is_some (fold (first_of_two f) (Some x) rs) ≡ true) → is_some (fold (first_of_two f) (first_case best r b) rs) ≡ true
-    by true h = h r
-    by false h = h best
-
--- where there is no first reference, there is none
-no_first : (f : Facts) (rs : List Reference) → is_some (first f rs) ≡ false → rs ≡ []
-no_first f [] e = refl
-no_first f (r ∷ rs) e = no_way (sym e ∙ fold_some f r rs)
-
-map_none : {A B : Type 0} (g : A → B) (o : Option A) → option_map g o ≡ None → is_some o ≡ false
-map_none g (Some x) e = absurd (let clash : true ≡ false = ap is_some e in cc)
-map_none g None e = refl
-
-filter_none : {A : Type 0} (test : A → Bool) (xs : List A) → filter test xs ≡ [] → list_any test xs ≡ false
-filter_none test [] e = refl
-filter_none test (x ∷ xs) e = by (test x) (filter_none test xs) e
-  where
-    by : (b : Bool) → (filter test xs ≡ [] → list_any test xs ≡ false) → cond b (x ∷ filter test xs) (filter test xs) ≡ [] → (b || list_any test xs) ≡ false
-    by true f e = absurd cc
-    by false f e = f e
-
-any_joined : {A : Type 0} (test : A → Bool) (xs ys : List A) → list_any test (xs ++ ys) ≡ false → (list_any test xs ≡ false) × (list_any test ys ≡ false)
-any_joined test [] ys e = (refl, e)
-any_joined test (x ∷ xs) ys e =
-    let both = or_none (test x) (list_any test (xs ++ ys)) e in
-    let rest = any_joined test xs ys both.1 in
-    (ap (λ b. b || list_any test xs) both.0 ∙ rest.0, rest.1)
-
-any_alike : {K X : Type 0} (p : Reference → Bool) (q : X → Bool) (g : K × X → Reference) → ((e : K × X) → p (g e) ≡ q e.1) → (es : List (K × X)) → list_any p (map g es) ≡ list_any q (map (λ e. e.1) es)
-any_alike p q g h [] = refl
-any_alike p q g h (e ∷ es) = ap (λ b. b || list_any p (map g es)) (h e) ∙ ap (λ b. q e.1 || b) (any_alike p q g h es)
-
-module _ (w : World) (m : ℕ) (none : first_in w m ≡ None) where
-  abbrev among : Seen → Bool
-  among p = is_of w.mounts m (mount_of p)
-
-  no_refs : list_any (λ (r : Reference). not r.dead && among r.place) (references w) ≡ false
-  no_refs =
-      filter_none (λ (r : Reference). not r.dead && among r.place) (references w)
-      (no_first (facts_of w) (filter (λ (r : Reference). not r.dead && among r.place) (references w))
-      (map_none (λ (r : Reference). r.at) (first (facts_of w) (filter (λ (r : Reference). not r.dead && among r.place) (references w))) none))
-
-  no_opens : list_any (λ (o : Open). not o.dead && among o.place) (values w.opens) ≡ false
-  no_opens =
-      sym (any_alike (λ (r : Reference). not r.dead && among r.place) (λ (o : Open). not o.dead && among o.place) open_reference (λ e. refl) (entries w.opens))
-      ∙ (any_joined (λ (r : Reference). not r.dead && among r.place) (open_references w) (map cwd_reference (entries w.cwds)) no_refs).0
-
-  no_cwds : list_any (λ (d : Cwd). not d.dead && among d.place) (values w.cwds) ≡ false
-  no_cwds =
-      sym (any_alike (λ (r : Reference). not r.dead && among r.place) (λ (d : Cwd). not d.dead && among d.place) cwd_reference (λ e. refl) (entries w.cwds))
-      ∙ (any_joined (λ (r : Reference). not r.dead && among r.place) (open_references w) (map cwd_reference (entries w.cwds)) no_refs).1
-
-  open_apart : (k : ℕ × ℕ) (o : Open) → get w.opens k ≡ Some o → o.dead ≡ false → among o.place ≡ false
-  open_apart k o at alive = not_so (among o.place) (λ is.
-      no_way (sym no_opens ∙ value_any pair_cmp (λ (o : Open). not o.dead && among o.place) w.opens k o at (both_of (not o.dead) (among o.place) (ap not alive) is)))
-
-  cwd_apart : (c : ℕ) (d : Cwd) → get w.cwds c ≡ Some d → d.dead ≡ false → among d.place ≡ false
-  cwd_apart c d at alive = not_so (among d.place) (λ is.
-      no_way (sym no_cwds ∙ value_any nat_cmp (λ (d : Cwd). not d.dead && among d.place) w.cwds c d at (both_of (not d.dead) (among d.place) (ap not alive) is)))
 
 done_next : (w : World) (c m : ℕ) (o : Option Ref) → first_in w m ≡ o → Keeps (LeavesSo (λ v. NoneIn w v m)) AnyNeed (rows.doom_next w c m o)
 done_next w c m (Some at) is = needed tt

@@ -1,4 +1,3 @@
 pub mod Alike
 pub mod Named
-pub mod Telling
 pub mod Unmounted

@@ -1,3 +1,4 @@
+// Each file is one file, whatever names and views show it.
 ghost use Rattle.std.specs.Prelude.{◌≡◌, ℕ, List, Some};
 ghost use Rattle.vfs_tree.specs.Child.{child_of};
 ghost use Rattle.vfs_tree.specs.Layers.{base};

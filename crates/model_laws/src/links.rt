@@ -1,3 +1,4 @@
+// A directory is linked exactly where a name of its parent gives it.
 ghost use Rattle.std.specs.Prelude.{◌≡◌, ◌==◌, ℕ, List, Some, IsSome, true, false};
 ghost use Rattle.vfs_tree.specs.Layers.{is_linked};
 ghost use Rattle.vfs_tree.specs.Sound.{IsSound};

@@ -1,3 +1,4 @@
+// What unmounts take away: without force nothing that is in use, by force no live reference.
 ghost use Rattle.std.specs.Prelude.{◌≡◌, ◌≢◌, ℕ, true, List, Some, IsSome};
 ghost use Rattle.std.specs.FinMap.{get};
 ghost use Rattle.vfs_tree.specs.Mounts.{has_references};

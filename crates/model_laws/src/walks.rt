@@ -1,4 +1,5 @@
-ghost use Rattle.std.specs.Prelude.{◌≡◌, ◌==◌, ℕ, List, false, Option};
+// Walks read names and mounts alone.
+ghost use Rattle.std.specs.Prelude.{◌≡◌, ℕ, List, Option};
 ghost use Rattle.std.specs.FinMap.{get};
 ghost use Rattle.vfs_tree.specs.Facts.{Facts};
 ghost use Rattle.vfs_tree.specs.Place.{Seen};
@@ -6,13 +7,7 @@ ghost use Rattle.vfs_tree.specs.Views.{facts_of};
 ghost use Rattle.vfs_tree.specs.Walk.{Walked, find};
 ghost use Rattle.vfs_tree.specs.declared.walk.Leaf.{Leaf};
 ghost use Rattle.vfs_tree.specs.declared.world.World.{World};
-ghost use Rattle.call_model.specs.Effects.{effect};
-ghost use Rattle.call_model.specs.Legal.{after};
 ghost use Rattle.call_model.specs.Rows.{Way, found_at};
-ghost use Rattle.call_model.specs.declared.call.Call.{Call};
-ghost use Rattle.call_model.specs.declared.entry.Entry.TheVariants as entry;
-ghost use Rattle.call_model.specs.declared.entry.Inner.TheVariants.{CopyUp, Detach, Shadow};
-ghost use Rattle.call_model.specs.declared.reply.Reply.{Reply};
 ghost use Rattle.model_laws.specs.Alike.{ShowsSame};
 
 /// A walk reads the names and mounts alone: a law of the model, with no code.
@@ -23,15 +18,4 @@ pub fn a_walk_reads_names_and_mounts()
     // So do the paths of a caller's calls in two worlds, where its current directory is the same too.
     ensures worlds { (v w : World) (c : ℕ) → ShowsSame (facts_of v) (facts_of w) → get v.cwds c ≡ get w.cwds c → (o : Option Way)
         → found_at v c o ≡ found_at w c o }
-{}
-
-/// Only a caller's own calls, and dooms, change its current directory: a law of the model, with no code.
-pub fn others_keep_a_current_directory()
-    // A call of another caller leaves it.
-    ensures call { (w : World) (c d : ℕ) (call : Call) (r : Reply)
-        → (d == c) ≡ false → get (after w (entry.Call c call r)).cwds d ≡ get w.cwds d }
-    // So does each inner entry but a doom, whoever makes it.
-    ensures shadow { (w : World) (c m u : ℕ) (n : List ℕ) → (effect w c (Shadow m u n)).cwds ≡ w.cwds }
-    ensures copy_up { (w : World) (c m u : ℕ) (n : List ℕ) → (effect w c (CopyUp m u n)).cwds ≡ w.cwds }
-    ensures detach { (w : World) (c m : ℕ) → (effect w c (Detach m)).cwds ≡ w.cwds }
 {}

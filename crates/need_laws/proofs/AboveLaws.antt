@@ -1,5 +1,5 @@
 -- Every legal history leaves nothing open for writing that is of a lower layer alone.
-use Rattle.std.proofs.Common.{◌≡◌, ℕ, true, false, List, [], ◌∷◌, refl, ap, sym, subst}
+use Rattle.std.proofs.Common.{◌≡◌, ℕ, true, false, List, [], refl, sym, subst}
 use Rattle.std.specs.Prelude.{Option, Some, None, IfSome}
 use Rattle.std.specs.FinMap.{get, get-empty}
 use Rattle.finite_maps.specs.Keys.{pair_cmp}
@@ -17,14 +17,11 @@ use Rattle.vfs_tree.specs.declared.node.Store.{Store}
 use Rattle.vfs_tree.specs.declared.open.Open.{Open}
 use Rattle.vfs_tree.specs.declared.walk.Child.{Child}
 use Rattle.vfs_tree.specs.declared.walk.Child.TheVariants as child
-use Rattle.vfs_tree.specs.declared.walk.Step.TheVariants.{Go, Refuse, Wants}
 use Rattle.vfs_tree.specs.declared.world.World.{World}
-use Rattle.call_model.specs.Apply.{Applied, Finished, Needs, settle}
-use Rattle.call_model.specs.Checks.{Outcome, upper_store, node_of}
+use Rattle.call_model.specs.Checks.{upper_store, node_of}
 use Rattle.call_model.specs.Effects.{turned, turned_open, turned_opens, copy_of, copied_child, made_above, doomed_open, doomed_place, effect}
-use Rattle.call_model.specs.Legal.{Pending, IsNeeded, IsLegal, IsLegalFrom, doomers_after, next_call, after, replay}
+use Rattle.call_model.specs.Legal.{Pending, IsLegal, after, replay}
 use Rattle.call_model.specs.Refs.{place_of}
-use Rattle.call_model.specs.Rows.{row}
 use Rattle.call_model.specs.declared.call.Call.{Call}
 use Rattle.call_model.specs.declared.entry.Entry.{Entry}
 use Rattle.call_model.specs.declared.entry.Entry.TheVariants as entry
@@ -33,12 +30,10 @@ use Rattle.call_model.specs.declared.entry.Inner.TheVariants.{Shadow, CopyUp, De
 use Rattle.call_model.specs.declared.reply.Reply.{Reply}
 use Rattle.call_laws.specs.Lasting.{IsLasting}
 use Rattle.call_laws.proofs.FlagLaws.{get_each}
-use Rattle.call_laws.proofs.NeededLaws.{whole-needed}
 use Rattle.call_laws.proofs.PlaceLaws.{lasting-start}
 use Rattle.call_laws.proofs.SoundLaws.{sound-start}
 use Rattle.call_laws.proofs.SoundParts.{mapped}
-use Rattle.call_laws.proofs.Whole.{IsWhole}
-use Rattle.call_laws.proofs.WorldLaws.{whole-call}
+use Rattle.call_laws.proofs.WorldLaws.{kept-history}
 use Rattle.need_laws.specs.Above.{is_lower_file, AreWrittenAbove}
 use Rattle.need_laws.proofs.WriteLaws.{left-call}
 
@@ -98,28 +93,9 @@ above-inner w c (Doom at) h = above-doomed w (place_of w at) h
 
 -- ---- histories
 
-abbrev need_or : Applied → Inner → Inner
-need_or (Needs x) y = x
-need_or (Finished w r) y = y
-
-pub row_needs : (w : World) (o : Outcome) (x : Inner) → settle w o ≡ Needs x → o ≡ Wants x
-row_needs w (Go y) x e = absurd cc
-row_needs w (Refuse y) x e = absurd cc
-row_needs w (Wants y) x e = ap Wants (ap (λ a. need_or a y) e)
-
-whole-entry : (w : World) (c : ℕ) (o : Option Call) (x : Inner) → IsNeeded w c o x → IsWhole w → IsWhole (effect w c x)
-whole-entry w c (Some call) x needs h = whole-needed w c call x (row_needs w (row w c call) x needs) h
-whole-entry w c None x needs h = absurd needs
-
-above_on : (p : Pending) (doomers : List ℕ) (w : World) (es : List Entry) → IsLegalFrom p doomers w es → IsWhole w → AreWrittenAbove w → AreWrittenAbove (replay w es)
-above_on p doomers w [] legal h above = above
-above_on p doomers w (entry.Call c call r ∷ es) legal h above =
-    above_on p (doomers_after doomers (entry.Call c call r)) (after w (entry.Call c call r)) es legal.1 (whole-call w c r h call) (above-call w c call r h.sound h.lasts above)
-above_on p doomers w (entry.Inner c x ∷ es) legal h above =
-    above_on p (doomers_after doomers (entry.Inner c x)) (effect w c x) es legal.1 (whole-entry w c (next_call p c es) x legal.0 h) (above-inner w c x above)
-
 pub above-history : (p : Pending) (w : World) (es : List Entry) → IsLegal p w es → IsSound w → IsLasting w → AreWrittenAbove w → AreWrittenAbove (replay w es)
-above-history p w es legal sound lasts above = above_on p [] w es legal (record { sound = sound; lasts = lasts }) above
+above-history p w es legal sound lasts above =
+    kept-history AreWrittenAbove (λ w h above c r x. above-call w c x r h.sound h.lasts above) (λ w h above c x i needs. above-inner w c i above) p [] w es legal (record { sound = sound; lasts = lasts }) above
 
 pub above-from_start : (limits : Limits) (p : Pending) (es : List Entry) → IsLegal p (start_world limits) es → AreWrittenAbove (replay (start_world limits) es)
 above-from_start limits p es legal = above-history p (start_world limits) es legal (sound-start limits) (lasting-start limits) (above-start limits)

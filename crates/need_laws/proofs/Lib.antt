@@ -1,7 +1,6 @@
 pub mod WriteLaws
 pub mod AboveLaws
 pub mod TurnLaws
-pub mod LeadLaws
 pub mod ShadowLaws
 pub mod FoundNeeds
 pub mod NeedRows

@@ -22,7 +22,7 @@ use Rattle.vfs_tree.specs.declared.walk.Step.TheVariants.{Wants}
 use Rattle.vfs_tree.specs.declared.world.World.{World}
 use Rattle.call_model.specs.Checks.{is_full, upper_store, node_of}
 use Rattle.call_model.specs.Effects.{copy_of, copied_child, made_above, effect}
-use Rattle.call_model.specs.Legal.{Pending, IsNeeded, IsLegal, next_call, replay}
+use Rattle.call_model.specs.Legal.{Pending, IsLegal, next_call, replay}
 use Rattle.call_model.specs.Rows.{row}
 use Rattle.call_model.specs.declared.call.Call.{Call}
 use Rattle.call_model.specs.declared.entry.Entry.{Entry}
@@ -36,7 +36,7 @@ use Rattle.call_laws.proofs.NamedLaws.{no_way}
 use Rattle.call_laws.proofs.PlaceLaws.{good_view}
 use Rattle.call_laws.proofs.PrefixLaws.{legal-before, legal-after, replay-joined}
 use Rattle.call_laws.proofs.Whole.{IsWhole}
-use Rattle.call_laws.proofs.WorldLaws.{sound_from_start, lasting_from_start}
+use Rattle.call_laws.proofs.WorldLaws.{IsNext, next_is, sound_from_start, lasting_from_start}
 use Rattle.layer_laws.specs.Apart.{IsApart}
 use Rattle.layer_laws.proofs.ApartLaws.{apart_from_start}
 use Rattle.layer_laws.proofs.AvoidLaws.{Avoids, avoids, edit_hidden}
@@ -44,7 +44,6 @@ use Rattle.layer_laws.proofs.TwinLaws.{dir_shown}
 use Rattle.layer_laws.proofs.UnionLaws.{shadow_root, copy_root}
 use Rattle.need_laws.specs.Lacking.{LacksDir, LacksFile}
 use Rattle.need_laws.specs.Showing.{ShowsAsBefore}
-use Rattle.need_laws.proofs.AboveLaws.{row_needs}
 use Rattle.need_laws.proofs.NeedRows.{CopyAt, row_need}
 use Rattle.need_laws.proofs.ShadowLaws.{ShadowAt, ShowsDir}
 
@@ -132,14 +131,6 @@ pub copy_others : (w : World) (c m u k : ℕ) (n : List ℕ) → IsSound w → I
 copy_others w c m u k n sound lasts there cut none = λ ns. copied_hidden w sound lasts m k there cut none u n (child_below (child_of (facts_of w)) (low (facts_of w) m u) n) ns
 
 -- ---- histories
-
-record IsNext (w : World) (c : ℕ) (x : Inner) : Type 0 where
-  pub call : Call
-  pub needs : row w c call ≡ Wants x
-
-next_is : (w : World) (c : ℕ) (o : Option Call) (x : Inner) → IsNeeded w c o x → IsNext w c x
-next_is w c (Some call) x needs = record { call = call; needs = row_needs w (row w c call) x needs }
-next_is w c None x needs = absurd needs
 
 -- what an inner entry of a history is needed by
 module _ (limits : Limits) (p : Pending) (es fs : List Entry) (c : ℕ) (x : Inner) (legal : IsLegal p (start_world limits) (es ++ entry.Inner c x ∷ fs)) where

@@ -1,19 +1,19 @@
 -- A copy of a file of the lower layer, and the open files that turn to it.
-use Rattle.std.proofs.Common.{◌≡◌, ℕ, suc, Bool, true, false, cond, not, ◌&&◌, ◌||◌, ◌==◌, List, refl, ap, sym, ◌∙◌, subst, eqb-true}
-use Rattle.std.specs.Prelude.{Option, Some, None, IsSome, IfSome, is_some, option_map, option_and_then, nat_lt}
+use Rattle.std.proofs.Common.{◌≡◌, ℕ, Bool, true, false, cond, not, ◌&&◌, ◌||◌, ◌==◌, List, refl, ap, sym, ◌∙◌, subst, eqb-true}
+use Rattle.std.specs.Prelude.{Option, Some, None, IsSome, IfSome, option_map, option_and_then, nat_lt}
 use Rattle.std.specs.Str.{bytes_eq}
 use Rattle.std.specs.Cmp.{nat_cmp_total}
 use Rattle.std.specs.FinMap.{get, insert}
 use Rattle.finite_maps.proofs.EntryLaws.{pair_total, get_at-insert}
-use Rattle.vfs_tree.specs.Child.{child_below, child_low, child_union, child_within, child_of, low, low_by, upper_entry}
+use Rattle.vfs_tree.specs.Child.{child_below, child_union, child_within, child_of, low_by, upper_entry}
 use Rattle.vfs_tree.specs.Edits.{made, with_store}
 use Rattle.vfs_tree.specs.Facts.{Facts}
-use Rattle.vfs_tree.specs.Layers.{kind_in, store_by, base, is_cut, is_dir, is_dir_kind, kind_of, is_linked, linked_by, same_place}
+use Rattle.vfs_tree.specs.Layers.{kind_in, store_by, base, is_cut, is_dir, is_dir_kind, is_linked, linked_by, same_place}
 use Rattle.vfs_tree.specs.Nodes.{next_of, entry_in, node_at, AreBelow}
 use Rattle.vfs_tree.specs.Place.{Seen, Mem, Null, UnionUp, UnionLow, bare}
-use Rattle.vfs_tree.specs.Sound.{is_union, IsSound}
+use Rattle.vfs_tree.specs.Sound.{IsSound}
 use Rattle.vfs_tree.specs.Steps.{◌>>=◌, ◌>>◌, refuse_if}
-use Rattle.vfs_tree.specs.Views.{kind_of_node, facts_in, dir_in, facts_of}
+use Rattle.vfs_tree.specs.Views.{kind_of_node, dir_in, facts_of}
 use Rattle.vfs_tree.specs.declared.errno.Errno.TheVariants as errno
 use Rattle.vfs_tree.specs.declared.mount.MountKind.{MountKind}
 use Rattle.vfs_tree.specs.declared.mount.MountKind.TheVariants as kind
@@ -23,7 +23,6 @@ use Rattle.vfs_tree.specs.declared.node.Node.{Node}
 use Rattle.vfs_tree.specs.declared.node.Node.TheVariants.{Dir, File, Link}
 use Rattle.vfs_tree.specs.declared.node.Store.{Store}
 use Rattle.vfs_tree.specs.declared.open.Open.{Open}
-use Rattle.vfs_tree.specs.declared.walk.Child.{Child}
 use Rattle.vfs_tree.specs.declared.walk.Child.TheVariants as child
 use Rattle.vfs_tree.specs.declared.walk.NodeId.{NodeId}
 use Rattle.vfs_tree.specs.declared.walk.Step.TheVariants.{Go}
@@ -36,19 +35,15 @@ use Rattle.call_model.specs.declared.call.Call.TheVariants as call
 use Rattle.call_model.specs.declared.entry.Inner.TheVariants.{CopyUp}
 use Rattle.call_model.specs.declared.reply.Reply.TheVariants as reply
 use Rattle.call_laws.specs.Lasting.{IsLasting}
-use Rattle.call_laws.specs.Needing.{IsFree}
 use Rattle.call_laws.proofs.FlagLaws.{get_each}
-use Rattle.call_laws.proofs.FoundLaws.{IsGood, GoodChild, ReadyChild, good-child, ready-within}
+use Rattle.call_laws.proofs.MadeLaws.{node_new, entry_new}
 use Rattle.call_laws.proofs.NamedLaws.{no_way}
-use Rattle.call_laws.proofs.PlaceLaws.{good_view}
 use Rattle.call_laws.proofs.SoundMade.{IsDirAt, dir_at}
 use Rattle.call_laws.proofs.SoundParts.{first_of, second_of, or_none}
 use Rattle.call_laws.proofs.Whole.{IsWhole}
 use Rattle.model_laws.proofs.FileLaws.{same_bytes}
-use Rattle.layer_laws.proofs.CopyTwins.{fresh_copy}
-use Rattle.layer_laws.proofs.LowerLaws.{Stands}
-use Rattle.layer_laws.proofs.MadeStores.{node_new, entry_new}
-use Rattle.layer_laws.proofs.NestLaws.{Under, child_from, nests-lower, child_looking, child_nests}
+use Rattle.layer_laws.proofs.CopiedLaws as copied
+use Rattle.layer_laws.proofs.CopiedLaws.{HasStore}
 use Rattle.need_laws.specs.Turning.{is_seen_over, TurnsTo, AreOpenAlike}
 use Rattle.need_laws.proofs.WriteLaws.{bare_base}
 
@@ -147,98 +142,22 @@ copy_same (Some (Link target)) plain known = refl
 copy_same (Some (Dir parent opaque names)) plain known = no_way (sym plain)
 copy_same None plain known = no_way known
 
-record HasStore (o : Option Store) : Type 0 where
-  pub store : Store
-  pub at : o ≡ Some store
-
-there_store : (u : ℕ) (o : Option Store) → linked_by (option_and_then (λ (t : Store). dir_in t u) o) ≡ true → HasStore o
-there_store u (Some t) e = record { store = t; at = refl }
-there_store u None e = no_way e
-
-node_there : (t : Store) (u : ℕ) (o : Option Node) → linked_by (option_and_then (facts_in t u) o) ≡ true → IsSome (option_map kind_of_node o)
-node_there t u (Some y) e = refl
-node_there t u None e = no_way e
-
-dir_there : (u : ℕ) (o : Option Store) → linked_by (option_and_then (λ (t : Store). dir_in t u) o) ≡ true → IsSome (option_map kind_of_node (option_and_then (λ (t : Store). get t.nodes u) o))
-dir_there u (Some t) e = node_there t u (get t.nodes u) e
-dir_there u None e = no_way e
-
 module _ (w : World) (h : IsWhole w) (m s top : ℕ) (lower : Seen) (is : kind_in (facts_of w) m ≡ Some (kind.Union s top lower)) (cut : is_cut (facts_of w) m ≡ false)
     (u : ℕ) (n : List ℕ) (q : Seen) (there : child_of (facts_of w) (UnionUp m u) n ≡ child.At (UnionLow m u n q)) where
   abbrev f : Facts
   f = facts_of w
 
-  free : IsFree f m u n
-  free = subst (ReadyChild f) there (ready-within (suc m) f (UnionUp m u) n)
-
   store_is : store_by (kind_in f m) ≡ s
-  store_is = ap store_by is
+  store_is = copied.store_is w h m s top lower is cut u n q there
 
   linked_in : is_linked f s u ≡ true
-  linked_in = subst (λ r. is_linked f r u ≡ true) store_is free.linked
-
-  free_in : f.entry s u n ≡ None
-  free_in = subst (λ r. f.entry r u n ≡ None) store_is free.free
+  linked_in = copied.linked_in w h m s top lower is cut u n q there
 
   stored : HasStore (get w.stores s)
-  stored = there_store u (get w.stores s) linked_in
+  stored = copied.stored w h m s top lower is cut u n q there
 
   abbrev t : Store
   t = stored.store
-
-  good_dir : IsGood f (UnionUp m u)
-  good_dir = record {
-    sound = record { mounts = ap is_union is; base = ap (λ (o : Option MountKind). is_some (f.kind (store_by o) u)) is ∙ dir_there u (get w.stores s) linked_in; files = tt };
-    uncut = cut;
-    over = tt;
-    ready = tt;
-  }
-
-  known : IsSome (kind_of f q)
-  known =
-      let c : GoodChild f (good_view w h.sound h.lasts) m (child.At (UnionLow m u n q)) = subst (GoodChild f (good_view w h.sound h.lasts) m) there (good-child f (good_view w h.sound h.lasts) (UnionUp m u) n good_dir) in
-      c.0.sound.base
-
-  -- ---- what the lower layer has there
-
-  abbrev below : Child
-  below = child_below (child_within m f) (low f m u) n
-
-  below_low : child_low f m u n below ≡ child.At (UnionLow m u n q)
-  below_low =
-      sym (ap (λ (e : Option NameEntry). child_union f m u n e (child_below (child_within m f) (low f m u))) (ap (λ (o : Option MountKind). upper_entry f o u n) is ∙ free_in)) ∙ there
-
-  abbrev under : Child → Seen
-  under (child.At (UnionLow a b k p)) = p
-  under (child.At p) = p
-  under child.Absent = q
-  under (child.Need y) = q
-
-  record IsCopied (c : Child) : Type 0 where
-    pub at : c ≡ child.At q
-    pub plain : is_dir f q ≡ false
-
-  copied : (c : Child) → child_low f m u n c ≡ child.At (UnionLow m u n q) → IsCopied c
-  copied (child.At p) e = by (is_dir f p) refl e
-    where
-      by : (b : Bool) → is_dir f p ≡ b → cond b (child.Need (record { mount = m; dir = u; name = n })) (child.At (UnionLow m u n p)) ≡ child.At (UnionLow m u n q) → IsCopied (child.At p)
-      by true d e = absurd (let clash : child.Need (record { mount = m; dir = u; name = n }) ≡ child.At (UnionLow m u n q) = e in cc)
-      by false d e = let same : p ≡ q = ap under e in record { at = ap child.At same; plain = ap (is_dir f) (sym same) ∙ d }
-  copied child.Absent e = absurd (let clash : child.Absent ≡ child.At (UnionLow m u n q) = e in cc)
-  copied (child.Need y) e = absurd (let clash : child.Need y ≡ child.At (UnionLow m u n q) = e in cc)
-
-  is_copied : IsCopied below
-  is_copied = copied below below_low
-
-  same_below : (c : Child) → Stands (Under f m) c → child_below (child_of f) c n ≡ child_below (child_within m f) c n
-  same_below (child.At d) a = sym (child_from f (good_view w h.sound h.lasts) m d n a.0 a.1)
-  same_below child.Absent a = refl
-  same_below (child.Need y) a = refl
-
-  copied_is : child_below (child_of f) (low f m u) n ≡ child.At q
-  copied_is =
-      let view = good_view w h.sound h.lasts in
-      same_below (low f m u) (nests-lower f view (λ k. child_within k f) (child_union f) (child_looking f) (child_within m f) (child_nests f view m) m u cut (kind_in f m) refl) ∙ is_copied.at
 
   -- ---- the world with the copy
 
@@ -256,7 +175,7 @@ module _ (w : World) (h : IsWhole w) (m s top : ℕ) (lower : Seen) (is : kind_i
 
   effect_is : (c : ℕ) → effect w c (CopyUp m u n) ≡ turns
   effect_is c =
-      ap (copied_child w m u n) copied_is
+      ap (copied_child w m u n) (copied.copied_is w h m s top lower is cut u n q there)
       ∙ ap (λ (r : ℕ). turned_opens (UnionLow m u n q) (UnionUp m (next_of (get w.stores r))) (with_store (λ t. made t u n node) w r (get w.stores r))) store_is
       ∙ ap (λ (o : Option Store). turned_opens (UnionLow m u n q) (UnionUp m i) (with_store (λ t. made t u n node) w s o)) stored.at
 
@@ -270,7 +189,7 @@ module _ (w : World) (h : IsWhole w) (m s top : ℕ) (lower : Seen) (is : kind_i
   parts = dir_at t u (get t.nodes u) (sym (ap (λ (o : Option Store). linked_by (option_and_then (λ (t : Store). dir_in t u) o)) stored.at) ∙ linked_in)
 
   no_name : get parts.names n ≡ None
-  no_name = sym (ap (entry_in n) parts.at) ∙ sym (ap (λ (o : Option Store). entry_in n (option_and_then (λ (t : Store). get t.nodes u) o)) stored.at) ∙ free_in
+  no_name = sym (ap (entry_in n) parts.at) ∙ sym (ap (λ (o : Option Store). entry_in n (option_and_then (λ (t : Store). get t.nodes u) o)) stored.at) ∙ copied.free_in w h m s top lower is cut u n q there
 
   store_new : get new.stores s ≡ Some (made t u n node)
   store_new = get_at-insert nat_cmp_total w.stores s (made t u n node)
@@ -278,14 +197,14 @@ module _ (w : World) (h : IsWhole w) (m s top : ℕ) (lower : Seen) (is : kind_i
   entry_made : (facts_of new).entry s u n ≡ Some (Ino i)
   entry_made =
       ap (λ (o : Option Store). entry_in n (option_and_then (λ (t : Store). get t.nodes u) o)) store_new
-      ∙ entry_new t u n node parts.parent parts.opaque parts.names numbered parts.at no_name (fresh_copy u (node_of w q))
+      ∙ entry_new t u n node parts.parent parts.opaque parts.names numbered parts.at
       ∙ sym (ap (λ j. Some (Ino j)) number_is)
 
   node_made : node_at new s i ≡ Some node
   node_made =
       ap (λ (o : Option Store). option_and_then (λ (t : Store). get t.nodes i) o) store_new
       ∙ ap (get (made t u n node).nodes) number_is
-      ∙ node_new t u n node parts.parent parts.opaque parts.names numbered parts.at no_name (fresh_copy u (node_of w q))
+      ∙ node_new t u n node parts.parent parts.opaque parts.names numbered parts.at
 
   name_in : child_of (facts_of turns) (UnionUp m u) n ≡ child.At (UnionUp m i)
   name_in =
@@ -293,7 +212,7 @@ module _ (w : World) (h : IsWhole w) (m s top : ℕ) (lower : Seen) (is : kind_i
       ap (λ (e : Option NameEntry). child_union g m u n e (child_below (child_within m g) (low_by g (child_within m g) u (kind_in g m)))) (ap (λ (o : Option MountKind). upper_entry g o u n) is ∙ entry_made)
 
   copy_in : node_of turns (UnionUp m i) ≡ node_of w q
-  copy_in = ap (λ (o : Option MountKind). node_at new (store_by o) i) is ∙ node_made ∙ copy_same (node_of w q) is_copied.plain known
+  copy_in = ap (λ (o : Option MountKind). node_at new (store_by o) i) is ∙ node_made ∙ copy_same (node_of w q) (copied.plain w h m s top lower is cut u n q there) (copied.known w h m s top lower is cut u n q there)
 
   open_in : (k : ℕ × ℕ) (o : Open) → get w.opens k ≡ Some o → get turns.opens k ≡ Some (record o { place = turned (UnionLow m u n q) (UnionUp m i) o.place })
   open_in k o at = get_each pair_total (turned_open (UnionLow m u n q) (UnionUp m i)) w.opens k ∙ ap (option_map (turned_open (UnionLow m u n q) (UnionUp m i))) at

@@ -1,3 +1,4 @@
+// What is open turns to the copy when its file is copied up, and reads the same.
 ghost use Rattle.std.specs.Prelude.{◌≡◌, ℕ, List, Some, true, false};
 ghost use Rattle.std.specs.FinMap.{get};
 ghost use Rattle.vfs_tree.specs.Child.{child_of};

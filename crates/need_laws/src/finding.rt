@@ -1,3 +1,4 @@
+// Paths find what is in mounts that aren't cut.
 ghost use Rattle.std.specs.Prelude.{◌≡◌, ℕ, List, Option, Some, None};
 ghost use Rattle.vfs_tree.specs.Place.{Seen};
 ghost use Rattle.vfs_tree.specs.Sound.{IsSound, IsSoundDir};

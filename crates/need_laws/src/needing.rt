@@ -1,3 +1,4 @@
+// Calls need what the upper layer lacks, and that changes nothing that mounts show.
 ghost use Rattle.std.specs.Prelude.{◌≡◌, ◌==◌, ◌∷◌, ◌++◌, ℕ, List, [], IsSome, false};
 ghost use Rattle.std.specs.List.{list_any};
 ghost use Rattle.std.specs.FinMap.{get};

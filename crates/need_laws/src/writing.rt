@@ -1,3 +1,4 @@
+// What is open for writing, and what entries change, is no file of a lower layer alone.
 ghost use Rattle.std.specs.Prelude.{◌≡◌, ℕ, IfSome, IsSome, List, Some, false, true};
 ghost use Rattle.std.specs.FinMap.{get};
 ghost use Rattle.vfs_tree.specs.Layers.{base, is_dir, kind_in, kind_of, same_node};

@@ -19,8 +19,7 @@ use Rattle.call_laws.proofs.NeededLaws.{whole-needed}
 use Rattle.call_laws.proofs.PlaceLaws.{lasting-start}
 use Rattle.call_laws.proofs.SoundLaws.{sound-start}
 use Rattle.call_laws.proofs.Whole.{IsWhole}
-use Rattle.call_laws.proofs.WorldLaws.{whole-call}
-use Rattle.need_laws.proofs.AboveLaws.{row_needs}
+use Rattle.call_laws.proofs.WorldLaws.{whole-call, row_needs}
 use Rattle.output_laws.specs.Runs.{IsRunOf}
 use Rattle.output_laws.proofs.AnswerNumbers.{reply_few, keyed-call}
 use Rattle.output_laws.proofs.HistoryLines.{output_same}

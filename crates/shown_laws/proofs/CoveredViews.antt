@@ -20,8 +20,8 @@ use Rattle.call_laws.proofs.NamedLaws.{no_way}
 use Rattle.call_laws.proofs.SoundParts.{first_of, both_of}
 use Rattle.call_laws.proofs.Whole.{IsWhole}
 use Rattle.call_laws.proofs.WorldLaws.{sound_from_start, lasting_from_start}
-use Rattle.model_laws.proofs.CoverLaws.{covering_on, covering_is}
-use Rattle.model_laws.proofs.FoldLaws.{apart_whole}
+use Rattle.edit_laws.proofs.CoverLaws.{covering_on, covering_is}
+use Rattle.edit_laws.proofs.FoldLaws.{apart_whole}
 use Rattle.edit_laws.proofs.HistoryTells.{start_tells}
 use Rattle.shown_laws.specs.Covering.{IsCovered}
 

@@ -37,7 +37,7 @@ use Rattle.call_laws.specs.Lasting.{IsLasting, IsUncut}
 use Rattle.call_laws.proofs.DropLaws.{some_kind}
 use Rattle.call_laws.proofs.FoundLaws.{IsGood, good_layers}
 use Rattle.call_laws.proofs.GivenLaws.{given_target}
-use Rattle.call_laws.proofs.MadeLaws.{linked_dir}
+use Rattle.call_laws.proofs.MadeLaws.{linked_dir, no_node}
 use Rattle.call_laws.proofs.NameLaws.{has_room, linked_in, view_of}
 use Rattle.call_laws.proofs.NamedLaws.{no_way}
 use Rattle.call_laws.proofs.Parts.{Keeps, found_so, then, unless}
@@ -85,10 +85,6 @@ mkdir_makes w a =
     found_so (subst (λ a. MadeAt w a v) (sym is) (record { none = refl; room = m.0; is = m.1 }))))
 
 -- ---- parts
-
-no_node : (o : Option Node) (i : ℕ) → (IsSome o → i < i) → o ≡ None
-no_node None i h = refl
-no_node (Some x) i h = absurd (let less = h refl in omega (arith, less))
 
 neither : (e : Option NameEntry) → is_given e ≡ false → is_white e ≡ false → e ≡ None
 neither (Some (Ino j)) given white = no_way (sym given)

@@ -1,3 +1,4 @@
+// A mount covers what it is on, and the edits of a history show sound views.
 ghost use Rattle.std.specs.Prelude.{◌≡◌, ℕ, List, Some, true};
 ghost use Rattle.vfs_tree.specs.Place.{Seen};
 ghost use Rattle.vfs_tree.specs.Sound.{IsSound, IsSoundView, is_on_place};

@@ -1,3 +1,4 @@
+// A directory that is made shows no name.
 ghost use Rattle.std.specs.Prelude.{◌≡◌, ◌∷◌, ℕ, List, [], None, Option, Some};
 ghost use Rattle.vfs_tree.specs.Place.{Seen};
 ghost use Rattle.vfs_tree.specs.Shown as seen;

@@ -1,3 +1,4 @@
+// A directory that is moved in a union has nothing of the lower layer below it.
 ghost use Rattle.std.specs.Prelude.{◌≡◌, ◌==◌, ◌||◌, ℕ, List, Option, Some, true, false};
 ghost use Rattle.vfs_tree.specs.Carriers.{is_in_union};
 ghost use Rattle.vfs_tree.specs.Layers.{base, is_dir, kind_in};

@@ -1,3 +1,4 @@
+// A removed name shows nothing, and an undeleted one what the lower layer has.
 ghost use Rattle.std.specs.Prelude.{◌≡◌, ◌∷◌, ℕ, List, None, Option, false};
 ghost use Rattle.vfs_tree.specs.Carriers.{is_in_union};
 ghost use Rattle.vfs_tree.specs.Child.{child_below};

@@ -1,5 +1,5 @@
 -- The boxes that go from the rack to slots and back.
-use Rattle.std.proofs.Common.{ℕ, zero, suc, ◌≡◌, ◌≢◌, ◌<◌, ◌≤◌, ◌+◌, Bool, true, false, ◌==◌, ◌&&◌, cond, inl, inr, refl, sym, ap, ◌∙◌, subst, List, [], ◌∷◌, ◌++◌, length, arith, get_or, slice_set, slice_get, All, count_by, Option, Some, None, length-append}
+use Rattle.std.proofs.Common.{ℕ, zero, suc, ◌≡◌, ◌≢◌, ◌<◌, ◌≤◌, ◌+◌, Bool, true, false, cond, inl, inr, refl, sym, ap, ◌∙◌, subst, List, [], ◌∷◌, ◌++◌, length, arith, get_or, slice_set, slice_get, count_by, Some, length-append}
 use Rattle.std.proofs.lemmas.List.{length-set}
 use Rattle.std.proofs.lemmas.List.Sums.{sum_by-set, sum_by-cons, count_by-le-length, get_or-le-sum_by}
 use Rattle.std.proofs.lemmas.Option.{get_or_from_slice_get, slice_get_within}
@@ -8,7 +8,7 @@ use Rattle.op_vector.specs.declared.data.VKind.TheVariants.{Mem, Null, Union, De
 use Rattle.op_vector.specs.declared.rack.RackOf.{RackOf}
 use Rattle.op_vector.specs.Rack.{boxes_of, room_of, with_boxes}
 use Rattle.vnode_rec.specs.declared.slot.Slot.{Slot}
-use Rattle.vnode_rec.specs.Vnodes.{Table, is_filled, kind_of_slot, EachSlot, HasVector}
+use Rattle.vnode_rec.specs.Vnodes.{EachSlot, HasVector}
 use Rattle.vnode_rec.specs.Sound.{IsSupplied, same_kind, has_kind}
 use Rattle.vnode_rec.proofs.Slots.{at_set}
 

@@ -1,5 +1,5 @@
 -- What is true of a table's fields stays so where another slot stands at a number.
-use Rattle.std.proofs.Common.{ℕ, ◌≡◌, ◌≢◌, ◌<◌, ◌≤◌, ◌+◌, ◌^◌, Bool, true, false, not, ◌==◌, ◌&&◌, cond, refl, sym, ap, ◌∙◌, subst, inl, inr, List, length, arith, get_or, slice_get, slice_set, All, Option, Some, IsSome, sum_by}
+use Rattle.std.proofs.Common.{ℕ, ◌≡◌, ◌≢◌, ◌<◌, ◌≤◌, ◌+◌, ◌^◌, true, false, not, ◌==◌, ◌&&◌, cond, refl, sym, ap, ◌∙◌, subst, inl, inr, List, length, arith, get_or, slice_get, slice_set, All, Option, Some, IsSome}
 use Rattle.std.proofs.lemmas.List.{length-set}
 use Rattle.std.proofs.lemmas.List.Sums.{get_or-le-sum_by, sum_by-le}
 use Rattle.op_vector.specs.declared.data.VKind.{VKind}

@@ -1,5 +1,5 @@
 -- Which slots are empty.
-use Rattle.std.proofs.Common.{ℕ, ◌≡◌, ◌≢◌, ◌<◌, ◌+◌, ◌-◌, ◌^◌, true, false, not, Bool, refl, sym, ap, ◌∙◌, subst, inl, inr, ◌⊎◌, List, [], ◌∷◌, length, arith, get_or, slice_get, All, Some, None}
+use Rattle.std.proofs.Common.{ℕ, ◌≡◌, ◌≢◌, ◌<◌, ◌-◌, ◌^◌, true, false, not, Bool, refl, sym, ap, ◌∙◌, subst, inl, inr, List, [], ◌∷◌, length, arith, get_or, slice_get, All, Some}
 use Rattle.std.proofs.lemmas.Option.{slice_get-get_or}
 use Rattle.op_vector.specs.declared.rack.RackOf.{RackOf}
 use Rattle.free_list.specs.Queue.{Queue, member, without}
@@ -50,3 +50,32 @@ module _ {X : Type 0} (t : Table X) where
   -- a front whose generation is the greatest word, where no slot is empty
   pub no_slot_at : (s : ℕ) (x : Slot X) → AreFilled t.slots → t.free.queue ≡ s ∷ without s t.free.queue → slice_get t.slots s ≡ Some x → x.generation ≡ 2 ^ 64 - 1 → HasNoSlot t
   no_slot_at s x full front e top = (full, inr (s, x, front, e, top))
+
+-- the front of the one list or of the other, as it is read
+module _ {X : Type 0} (slots : List (Slot X)) (held : Held) (free empty : Queue) (place : List ℕ) (linked chains : ℕ) (rack : RackOf X) (sound : IsSound slots held free empty place linked chains rack)
+    {t : Table X} (is : ◌≡◌ {A = Table X} (record { slots = slots; rows = held.rows; uses = held.uses; free = free; rack = rack }) t) where
+  pub every_filled : empty.queue ≡ [] → AreFilled t.slots
+  every_filled none = subst (λ (t : Table X). AreFilled t.slots) is (all_filled slots held free empty place linked chains rack sound none)
+
+  pub empty_front : (s : ℕ) → empty.queue ≡ s ∷ without s empty.queue → All (λ x. x < empty.slots) empty.queue → member s empty.queue ≡ true → IsEmptyAt t.slots s
+  empty_front s front below listed =
+      let small = first_below empty.queue s (without s empty.queue) empty.slots front below in
+      let len = sound.sizes.empty_len in
+      subst (λ (t : Table X). IsEmptyAt t.slots s) is (empty_at slots held free empty place linked chains rack sound s (omega (arith, small, len)) listed)
+
+  module _ (s : ℕ) (front : free.queue ≡ s ∷ without s free.queue) (all_below : All (λ x. x < free.slots) free.queue) where
+    pub front_below : s < length slots
+    front_below =
+        let small = first_below free.queue s (without s free.queue) free.slots front all_below in
+        let len = sound.sizes.free_len in
+        omega (arith, small, len)
+
+    pub front_there : s < length t.slots
+    front_there = subst (λ (t : Table X). s < length t.slots) is front_below
+
+    pub front_is : t.free.queue ≡ s ∷ without s t.free.queue
+    front_is = subst (λ (t : Table X). t.free.queue ≡ s ∷ without s t.free.queue) is front
+
+    module _ (x : Slot X) (read : x ≡ get_or slots s x) where
+      pub front_slot : slice_get t.slots s ≡ Some x
+      front_slot = subst (λ (t : Table X). slice_get t.slots s ≡ Some x) is (slice_get-get_or slots s x front_below ∙ ap (λ (y : Slot X). Some y) (sym read))

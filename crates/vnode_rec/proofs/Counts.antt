@@ -1,12 +1,12 @@
 -- Counts as occurrences in rows.
-use Rattle.std.proofs.Common.{ℕ, ◌≡◌, ◌≢◌, ◌<◌, ◌≤◌, ◌+◌, ◌-◌, ◌*◌, ◌^◌, Bool, true, false, ◌==◌, cond, refl, sym, ap, ◌∙◌, subst, List, [], ◌∷◌, ◌++◌, length, take, arith, slice_index, slice_index_or, slice_set, get_or, All, length-append, ltb}
+use Rattle.std.proofs.Common.{ℕ, ◌≡◌, ◌<◌, ◌≤◌, ◌+◌, ◌-◌, ◌*◌, ◌^◌, Bool, true, false, ◌==◌, cond, refl, sym, ap, ◌∙◌, subst, List, [], ◌∷◌, ◌++◌, length, take, arith, slice_index, slice_index_or, slice_set, get_or, All, length-append, ltb}
 use Rattle.std.proofs.lemmas.List.{get_or-set_same, get_or-set_other, take-set-le, get_or-take, length-set, length-take-le, get_or_append_left}
 use Rattle.std.proofs.Math.Seq.{take-set-lt, get_or-append_seam}
 use Rattle.std.proofs.lemmas.Option.{get_or_from_slice_get, slice_get-get_or}
 use Rattle.std.proofs.lemmas.List.Sums.{sum_by-set, sum_by_push, sum_by-le, sum_by-take-le, count_by-le-length}
-use Rattle.std.proofs.lemmas.List.Elements.{All-set, All-append, All-push, All-pop}
+use Rattle.std.proofs.lemmas.List.Elements.{All-set, All-push}
 use Rattle.op_vector.specs.declared.data.Vid.{Vid}
-use Rattle.free_list.proofs.Queues.{yes_eq, no_eq, eq_yes, eq_no}
+use Rattle.free_list.proofs.Queues.{yes_eq, no_eq, eq_yes}
 use Rattle.vnode_rec.specs.Holders.{occurs, occurs_in, row_in, pushed, weight, AreCounted}
 
 -- an item read at an index, whatever stands for one that is not there
@@ -51,6 +51,12 @@ none_or : (b : Bool) → cond {A = ℕ} b 0 0 ≡ 0
 none_or true = refl
 none_or false = refl
 
+in_range : (i n : ℕ) → ltb i n ≡ true → i < n
+in_range i n h = grind arith
+
+out_range : (i n : ℕ) → ltb i n ≡ false → n ≤ i
+out_range i n h = grind arith
+
 -- the use rows take or lose a vnode where the row is one of them
 pub front_push : (s uses : ℕ) (rows : List (List Vid)) (i : ℕ) (v : Vid) → i < length rows → uses ≤ length rows → occurs s (take uses (pushed i v rows)) ≡ occurs s (take uses rows) + cond (v.slot == s) (weight uses i) 0
 front_push s uses rows i v h su = (elim (ltb i uses) as (λ b. ltb i uses ≡ b → occurs s (take uses (pushed i v rows)) ≡ occurs s (take uses rows) + cond (v.slot == s) (cond b 1 0) 0) [
@@ -70,12 +76,6 @@ front_push s uses rows i v h su = (elim (ltb i uses) as (λ b. ltb i uses ≡ b 
       omega (arith, a, z)
       )
 ]) refl
-  where
-    in_range : (i n : ℕ) → ltb i n ≡ true → i < n
-    in_range i n h = grind arith
-
-    out_range : (i n : ℕ) → ltb i n ≡ false → n ≤ i
-    out_range i n h = grind arith
 
 pub front_pop : (s uses : ℕ) (rows : List (List Vid)) (i : ℕ) (r : List Vid) (v : Vid) → i < length rows → uses ≤ length rows → row_in rows i ≡ r ++ v ∷ [] → occurs s (take uses rows) ≡ occurs s (take uses (slice_set rows i r)) + cond (v.slot == s) (weight uses i) 0
 front_pop s uses rows i r v h su was = (elim (ltb i uses) as (λ b. ltb i uses ≡ b → occurs s (take uses rows) ≡ occurs s (take uses (slice_set rows i r)) + cond (v.slot == s) (cond b 1 0) 0) [
@@ -96,12 +96,6 @@ front_pop s uses rows i r v h su was = (elim (ltb i uses) as (λ b. ltb i uses �
       omega (arith, a, z)
       )
 ]) refl
-  where
-    in_range : (i n : ℕ) → ltb i n ≡ true → i < n
-    in_range i n h = grind arith
-
-    out_range : (i n : ℕ) → ltb i n ≡ false → n ≤ i
-    out_range i n h = grind arith
 
 -- one count is raised or lowered
 pub raised_at : (counts : List ℕ) (slot by s : ℕ) → slot < length counts → slice_index (slice_set counts slot (slice_index counts slot + by)) s ≡ slice_index counts s + cond (slot == s) by 0

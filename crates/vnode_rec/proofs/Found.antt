@@ -1,6 +1,7 @@
 -- Finding a vnode by its identity.
-use Rattle.std.proofs.Common.{ℕ, ◌≡◌, ◌≢◌, ◌<◌, ◌≤◌, ◌+◌, Bool, true, false, not, ◌==◌, ◌&&◌, cond, refl, sym, ap, ◌∙◌, subst, List, length, arith, slice_get, Option, Some, None, IsSome}
+use Rattle.std.proofs.Common.{ℕ, ◌≡◌, ◌<◌, Bool, true, false, cond, refl, sym, ap, ◌∙◌, subst, List, length, arith, get_or, slice_get, Option, Some, None, IsNone}
 use Rattle.std.specs.Option.{option_and_then}
+use Rattle.std.proofs.lemmas.Option.{get_or_from_slice_get, slice_get_within}
 use Rattle.op_vector.specs.declared.data.Vid.{Vid}
 use Rattle.op_vector.specs.declared.data.VData.{VData}
 use Rattle.op_vector.specs.declared.rack.RackOf.{RackOf}
@@ -9,8 +10,10 @@ use Rattle.free_list.specs.Links.{at}
 use Rattle.vnode_rec.specs.declared.slot.Slot.{Slot}
 use Rattle.vnode_rec.specs.Chains.{chain_of}
 use Rattle.vnode_rec.specs.Holders.{Held}
-use Rattle.vnode_rec.specs.Vnodes.{is_live, identity_of, identity_if_live, slot_in, HasIdentity}
-use Rattle.vnode_rec.specs.Sound.{IsSound, place_of}
+use Rattle.vnode_rec.specs.Identity.{identity}
+use Rattle.vnode_rec.specs.Vnodes.{is_live, identity_of, identity_if_live, slot_in, HasIdentity, Table, HasNone, identity_at, vnode_of}
+use Rattle.vnode_rec.specs.Sound.{IsSound}
+use Rattle.vnode_rec.proofs.Seek.{seek_none, seek_some}
 use Rattle.vnode_rec.proofs.Slots.{live_as, is_live_as}
 
 -- a number is its slot and its generation
@@ -51,3 +54,61 @@ module _ {X : Type 0} (slots : List (Slot X)) (held : Held) (free empty : Queue)
   is_absent out w e =
       let l = live_as slots w id e in
       no_slot out w.slot l.slot l.was l.live l.same
+
+-- what a search of the chain says of the table
+module _ {X : Type 0} (slots : List (Slot X)) (held : Held) (free empty : Queue) (place : List ℕ) (linked chains : ℕ) (rack : RackOf X) (sound : IsSound slots held free empty place linked chains rack)
+    {t : Table X} (is : ◌≡◌ {A = Table X} (record { slots = slots; rows = held.rows; uses = held.uses; free = free; rack = rack }) t)
+    (vd : VData) (name : Option (List ℕ)) (chain count : ℕ) (hashed : chain ≡ chain_of (identity vd name) count) (counted : count ≡ chains) (below_count : chain < count) (items : List (Slot X)) (same : items ≡ slots) where
+  abbrev id : VData × Option (List ℕ)
+  id = identity vd name
+
+  in_chains : chain ≡ chain_of id chains
+  in_chains = hashed ∙ ap (chain_of id) counted
+
+  chain_within : chain < chains
+  chain_within = let a = below_count in let b = counted in omega (arith, a, b)
+
+  -- a slot of the chain has the identity
+  module _ (s : ℕ) (in_chain : at place s ≡ chain) (had : HasIdentity id items s) where
+    has : HasIdentity id slots s
+    has = subst (λ (l : List (Slot X)). HasIdentity id l s) same had
+
+    pub slot_below : s < length slots
+    slot_below = slice_get_within slots s has.0 has.1
+
+    module _ (x : Slot X) (read : x ≡ get_or slots s x) where
+      abbrev v : Vid
+      v = record { slot = s; generation = x.generation }
+
+      same_generation : x.generation ≡ has.0.generation
+      same_generation = ap (λ (y : Slot X). y.generation) (read ∙ get_or_from_slice_get slots s has.0 x has.1)
+
+      here : option_and_then identity_if_live (slot_in slots v) ≡ Some id
+      here = is_found slots held free empty place linked chains rack sound id chain in_chains chain_within s in_chain has v refl same_generation
+
+      pub has_found : identity_at t v ≡ Some id
+      has_found = subst (λ (t : Table X). identity_at t v ≡ Some id) is here
+
+      pub found_some : (IsNone (Some v) → HasNone id t) × (HasNone id t → IsNone (Some v))
+      found_some = (λ z. absurd (let k : ⊥ = cc in k), λ none. absurd (none v has_found))
+
+      pub found_only : (w : Vid) → identity_at t w ≡ Some id → ◌≡◌ {A = Option Vid} (Some v) (Some w)
+      found_only = subst (λ (t : Table X). (w : Vid) → identity_at t w ≡ Some id → ◌≡◌ {A = Option Vid} (Some v) (Some w)) is
+          (λ w e. ap (λ (u : Vid). Some u) (is_only slots held free empty place linked chains rack sound id chain in_chains chain_within s in_chain has v refl same_generation w e))
+
+      pub found_exact : ◌≡◌ {A = Option Vid} (Some v) (vnode_of id t)
+      found_exact =
+          let live = chain_live slots held free empty place linked chains rack sound id chain in_chains chain_within s has.0 has.1 in_chain in
+          subst (λ (t : Table X). ◌≡◌ {A = Option Vid} (Some v) (vnode_of id t)) is
+          (ap (λ n. Some (record { slot = s; generation = n })) same_generation ∙ sym (seek_some vd name slots 0 s has.0 has.1 live has.2 (λ r y e l i. sound.unique r s y has.0 e has.1 l live (i ∙ sym has.2)) s (omega arith)))
+
+  -- no slot of the chain has it
+  module _ (none : (s : ℕ) → at place s ≡ chain → HasIdentity id items s → ⊥) where
+    out : (s : ℕ) → at place s ≡ chain → HasIdentity id slots s → ⊥
+    out s in_chain had = none s in_chain (subst (λ (l : List (Slot X)). HasIdentity id l s) (sym same) had)
+
+    pub has_none : HasNone id t
+    has_none = subst (λ (t : Table X). HasNone id t) is (λ w e. is_absent slots held free empty place linked chains rack sound id chain in_chains chain_within out w e)
+
+    pub none_exact : ◌≡◌ {A = Option Vid} None (vnode_of id t)
+    none_exact = subst (λ (t : Table X). ◌≡◌ {A = Option Vid} None (vnode_of id t)) is (sym (seek_none vd name slots 0 (no_slot slots held free empty place linked chains rack sound id chain in_chains chain_within out)))

@@ -1,5 +1,5 @@
 -- A table in which nothing has been done.
-use Rattle.std.proofs.Common.{ℕ, ◌≡◌, ◌≢◌, ◌<◌, ◌≤◌, ◌+◌, ◌*◌, ◌^◌, Bool, true, false, not, ◌==◌, ◌||◌, ◌&&◌, cond, refl, sym, ap, ◌∙◌, subst, List, [], ◌∷◌, ◌++◌, length, arith, ltb, get_or, slice_get, All, count_by, Option, Some, None, IsSome}
+use Rattle.std.proofs.Common.{ℕ, ◌≡◌, ◌<◌, ◌≤◌, ◌+◌, ◌*◌, ◌^◌, true, false, ◌==◌, ◌||◌, cond, sym, ap, ◌∙◌, subst, List, [], ◌∷◌, ◌++◌, length, arith, ltb, slice_get, All, count_by, Option, Some, None, IsSome}
 use Rattle.std.proofs.lemmas.List.Sums.{sum_by-le}
 use Rattle.std.proofs.lemmas.Option.{slice_get_within, get_or_from_slice_get}
 use Rattle.op_vector.specs.declared.data.VKind.{VKind}
@@ -11,9 +11,9 @@ use Rattle.free_list.specs.Queue.{Queue, member}
 use Rattle.free_list.specs.Links.{at}
 use Rattle.free_list.proofs.Queues.{pushed}
 use Rattle.vnode_rec.specs.declared.slot.Slot.{Slot}
-use Rattle.vnode_rec.specs.Holders.{Held, occurs}
-use Rattle.vnode_rec.specs.Vnodes.{empty_slot, is_filled, is_live, slot_in, EachSlot, HasVector}
-use Rattle.vnode_rec.specs.Sound.{IsListed, IsSound, IsSupplied, has_kind, place_of}
+use Rattle.vnode_rec.specs.Holders.{Held}
+use Rattle.vnode_rec.specs.Vnodes.{empty_slot, is_live, slot_in, EachSlot, HasVector}
+use Rattle.vnode_rec.specs.Sound.{IsListed, IsSound, has_kind}
 
 -- what holds of each kind
 pub by_kinds : (P : VKind → Type 0) → P Mem → P Null → P Union → P Dead → (k : VKind) → P k

@@ -1,15 +1,14 @@
 -- Held vnodes stay, and no vnode comes back as another, where a slot that no row has is changed.
-use Rattle.std.proofs.Common.{ℕ, ◌≡◌, ◌≢◌, ◌<◌, ◌≤◌, ◌+◌, ◌^◌, Bool, true, false, ◌==◌, refl, sym, ap, ◌∙◌, subst, inl, inr, ◌⊎◌, List, [], ◌∷◌, length, arith, slice_get, slice_set, Option, Some, None, IsSome}
+use Rattle.std.proofs.Common.{ℕ, ◌≡◌, ◌≢◌, ◌<◌, ◌≤◌, true, false, ◌==◌, refl, sym, ap, ◌∙◌, subst, List, length, arith, slice_get, slice_set, Option, Some}
 use Rattle.std.specs.Option.{option_and_then}
 use Rattle.std.proofs.lemmas.Option.{slice_get_within}
 use Rattle.op_vector.specs.declared.data.VKind.{VKind}
 use Rattle.op_vector.specs.declared.data.Vid.{Vid}
 use Rattle.op_vector.specs.declared.data.VData.{VData}
-use Rattle.free_list.specs.Queue.{Queue, member, without}
 use Rattle.free_list.proofs.Queues.{yes_eq, no_eq}
 use Rattle.vnode_rec.specs.declared.slot.Slot.{Slot}
 use Rattle.vnode_rec.specs.Holders.{occurs}
-use Rattle.vnode_rec.specs.Vnodes.{Table, is_filled, slot_in, slot_at, empty_slot, EachSlot, IsCurrent, IsEmptyAt, HasNone, WasGiven, Grows, is_live, identity_if_live}
+use Rattle.vnode_rec.specs.Vnodes.{Table, is_filled, slot_in, slot_at, empty_slot, IsEmptyAt, HasNone, WasGiven, Grows, is_live, identity_if_live}
 use Rattle.vnode_rec.specs.Effects.{HasEmptied}
 use Rattle.vnode_rec.proofs.Slots.{get_same, get_other, found, live_as, slot_kept}
 

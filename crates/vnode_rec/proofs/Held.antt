@@ -1,5 +1,5 @@
 -- What is true of a table's fields stays so where a row takes or loses a vnode.
-use Rattle.std.proofs.Common.{ℕ, ◌≡◌, ◌≢◌, ◌<◌, ◌≤◌, ◌+◌, Bool, true, false, ◌==◌, ◌||◌, ◌&&◌, cond, refl, sym, ap, ◌∙◌, subst, List, [], ◌∷◌, ◌++◌, length, take, arith, slice_get, slice_set, All, Some, IsSome, length-append}
+use Rattle.std.proofs.Common.{ℕ, ◌≡◌, ◌≢◌, ◌<◌, ◌+◌, Bool, true, false, ◌==◌, ◌||◌, ◌&&◌, refl, sym, ap, ◌∙◌, subst, List, [], ◌∷◌, ◌++◌, length, arith, slice_get, slice_set, All, Some, IsSome, length-append}
 use Rattle.std.proofs.lemmas.List.{length-set, get_or_append_left, get_or-set_same, set-set}
 use Rattle.std.proofs.Math.Seq.{get_or-append_seam}
 use Rattle.std.proofs.lemmas.List.Elements.{All-set, All-push}
@@ -9,9 +9,9 @@ use Rattle.free_list.specs.Queue.{Queue, member, without}
 use Rattle.free_list.proofs.Queues.{yes_eq, no_eq, eq_yes, eq_no, gone, others, pushed}
 use Rattle.vnode_rec.specs.declared.slot.Slot.{Slot}
 use Rattle.vnode_rec.specs.Holders.{Held, occurs, row_in, pushed as pushed_row}
-use Rattle.vnode_rec.specs.Vnodes.{Table, is_filled, slot_in, EachSlot}
+use Rattle.vnode_rec.specs.Vnodes.{Table, is_filled, slot_in}
 use Rattle.vnode_rec.specs.Effects.{queued, LeftRow}
-use Rattle.vnode_rec.specs.Sound.{IsListed, IsSound}
+use Rattle.vnode_rec.specs.Sound.{HaveSizes, IsSound}
 use Rattle.vnode_rec.proofs.Counts.{occurs_push, occurs_pop}
 use Rattle.vnode_rec.proofs.Slots.{and_false, found, current_below}
 
@@ -31,24 +31,29 @@ pub queued_same : (s : ℕ) (q : List ℕ) → member s (queued true s q) ≡ tr
 queued_same s q = pushed s s q ∙ rw (eq_yes s s refl) (or_true (member s q))
 
 module _ {X : Type 0} (slots : List (Slot X)) (held : Held) (free empty : Queue) (place : List ℕ) (linked chains : ℕ) (rack : RackOf X) (sound : IsSound slots held free empty place linked chains rack) (i : ℕ) (v : Vid) (ir : i < length held.rows) where
+  -- other rows, and another queue of free slots, change no number
+  sizes_with : (rows : List (List Vid)) → length rows ≡ length held.rows → (queue : List ℕ) → HaveSizes slots (record held { rows = rows }) (record free { queue = queue }) empty place linked chains
+  sizes_with rows ln queue =
+      let sizes = sound.sizes in
+      let few = sizes.few in
+      record {
+        held_len = sizes.held_len;
+        free_len = sizes.free_len;
+        empty_len = sizes.empty_len;
+        linked_len = sizes.linked_len;
+        place_len = sizes.place_len;
+        few = rw ln few;
+        small = sizes.small;
+        some_chains = sizes.some_chains;
+      }
+
   module _ (current : IsSome (slot_in slots v)) where
     pub took_sound : IsSound slots (record held { rows = pushed_row i v held.rows }) (record free { queue = without v.slot free.queue }) empty place linked chains rack
     took_sound =
         let rows' : List (List Vid) = pushed_row i v held.rows in
         let ln : length rows' ≡ length held.rows = length-set held.rows i (row_in held.rows i ++ v ∷ []) in
-        let sizes = sound.sizes in
-        let few = sizes.few in
         record {
-          sizes = record {
-            held_len = sizes.held_len;
-            free_len = sizes.free_len;
-            empty_len = sizes.empty_len;
-            linked_len = sizes.linked_len;
-            place_len = sizes.place_len;
-            few = rw ln few;
-            small = sizes.small;
-            some_chains = sizes.some_chains;
-          };
+          sizes = sizes_with rows' ln _;
           current = All-set (All (λ (w : Vid). IsSome (slot_in slots w))) held.rows i (row_in held.rows i ++ v ∷ []) (All-push (λ (w : Vid). IsSome (slot_in slots w)) (row_in held.rows i) v (sound.current i [] ir) current) sound.current;
           listed = λ j x e. (
               let l = sound.listed j x e in
@@ -106,20 +111,9 @@ module _ {X : Type 0} (slots : List (Slot X)) (held : Held) (free empty : Queue)
         let rows' : List (List Vid) = slice_set held.rows i r in
         let ln : length rows' ≡ length held.rows = length-set held.rows i r in
         let la : length (r ++ v ∷ []) ≡ length r + 1 = length-append r (v ∷ []) in
-        let sizes = sound.sizes in
-        let few = sizes.few in
         let f = found slots v popped_current in
         record {
-          sizes = record {
-            held_len = sizes.held_len;
-            free_len = sizes.free_len;
-            empty_len = sizes.empty_len;
-            linked_len = sizes.linked_len;
-            place_len = sizes.place_len;
-            few = rw ln few;
-            small = sizes.small;
-            some_chains = sizes.some_chains;
-          };
+          sizes = sizes_with rows' ln _;
           current = All-set (All (λ (w : Vid). IsSome (slot_in slots w))) held.rows i r (λ k d h. subst (λ (w : Vid). IsSome (slot_in slots w)) (get_or_append_left r (v ∷ []) d k h) (all_was k d (omega (arith, h, la)))) sound.current;
           listed = λ j x e. (
               let l = sound.listed j x e in
@@ -170,6 +164,32 @@ module _ {X : Type 0} (slots : List (Slot X)) (held : Held) (free empty : Queue)
                 ∙ (ap (λ (uses : ℕ). record { slots = slots; rows = slice_set held.rows i (row_in held'.rows i); uses = uses; free = free'; rack = rack }) (ap (λ (h : Held). h.uses) is)
                 ∙ ap (λ (q : Queue). record { slots = slots; rows = slice_set held.rows i (row_in held'.rows i); uses = held.uses; free = q; rack = rack }) queued_is);
           }
+
+-- the uppermost vnode of a row of the table is let go
+module _ {X : Type 0} (slots : List (Slot X)) (held : Held) (free empty : Queue) (place : List ℕ) (linked chains : ℕ) (rack : RackOf X) (sound : IsSound slots held free empty place linked chains rack)
+    {t : Table X} (is : ◌≡◌ {A = Table X} (record { slots = slots; rows = held.rows; uses = held.uses; free = free; rack = rack }) t)
+    (i : ℕ) (there : i < length t.rows) (v : Vid) (held' : Held) (popped : row_in held.rows i ≡ row_in held'.rows i ++ v ∷ []) where
+  in_rows : i < length held.rows
+  in_rows = subst (λ (t : Table X). i < length t.rows) (sym is) there
+
+  pub gone_below : v.slot < free.slots
+  gone_below = let b = popped_below slots held free empty place linked chains rack sound i v in_rows (row_in held'.rows i) popped in let e = sound.sizes.free_len in omega (arith, b, e)
+
+  pub gone_absent : member v.slot free.queue ≡ false
+  gone_absent = popped_absent slots held free empty place linked chains rack sound i v in_rows (row_in held'.rows i) popped
+
+  module _ (others : held' ≡ record held { rows = slice_set held.rows i (row_in held'.rows i) }) (count : ℕ) (counted : count ≡ occurs v.slot held'.rows) (free' : Queue)
+      (queued_if : free' ≡ record free { queue = queued (count == 0) v.slot free.queue }) where
+    queued_is : free' ≡ record free { queue = queued (occurs v.slot held'.rows == 0) v.slot free.queue }
+    queued_is = queued_if ∙ ap (λ n. record free { queue = queued (n == 0) v.slot free.queue }) counted
+
+    pub gone_sound : IsSound slots held' free' empty place linked chains rack
+    gone_sound = let_go_sound slots held free empty place linked chains rack sound i v in_rows (row_in held'.rows i) popped held' free' others queued_is
+
+    pub gone_row : LeftRow i t v (record { slots = slots; rows = held'.rows; uses = held'.uses; free = free'; rack = rack })
+    gone_row =
+        subst (λ (t : Table X). LeftRow i t v (record { slots = slots; rows = held'.rows; uses = held'.uses; free = free'; rack = rack })) is
+        (let_go_row slots held free empty place linked chains rack sound i v in_rows (row_in held'.rows i) popped held' free' others queued_is)
 
 -- rows that lose one vnode after another
 module _ {X : Type 0} (t s u : Table X) (row : ℕ) (v : Vid) where

@@ -13,3 +13,6 @@ pub mod Growth
 pub mod Pigeons
 pub mod Claims
 pub mod Pairs
+mod Filling
+mod Reclaiming
+mod Swapping

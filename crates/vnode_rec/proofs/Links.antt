@@ -1,13 +1,13 @@
 -- The links of chains, and the chains that each change leaves.
-use Rattle.std.proofs.Common.{ℕ, ◌≡◌, ◌≢◌, ◌<◌, ◌≤◌, ◌+◌, Bool, true, false, ◌==◌, refl, sym, ap, ◌∙◌, subst, inl, inr, ◌⊎◌, List, [], ◌∷◌, ◌++◌, length, arith, slice_set, get_or, ◌||◌}
+use Rattle.std.proofs.Common.{ℕ, ◌≡◌, ◌≢◌, ◌<◌, ◌+◌, Bool, true, false, ◌==◌, refl, sym, ap, ◌∙◌, subst, inl, inr, ◌⊎◌, List, [], ◌∷◌, ◌++◌, length, arith, slice_set, get_or, ◌||◌}
 use Rattle.std.proofs.lemmas.List.{length-set}
 use Rattle.std.proofs.lemmas.Grind.{get_or_default_zero}
 use Rattle.free_list.specs.Queue.{member, without}
-use Rattle.free_list.specs.Links.{at, Path, Apart, AreLoopedTo}
-use Rattle.free_list.proofs.Queues.{eq_no, eq_yes, no_eq, yes_eq, below, gone, others, pushed, apart_without, apart_push, end_out}
+use Rattle.free_list.specs.Links.{at, AreLoopedTo}
+use Rattle.free_list.proofs.Queues.{eq_no, eq_yes, no_eq, yes_eq, below, gone, others, pushed, apart_without, apart_push}
 use Rattle.free_list.proofs.Chains.{kept, cut, put, last_in, before_in, after_in}
 use Rattle.free_list.proofs.Rings.{at_same, at_other}
-use Rattle.vnode_rec.specs.Chains.{IsChain, AreChained}
+use Rattle.vnode_rec.specs.Chains.{IsChain, AreChained, Links}
 
 -- a number is not two
 apart_from : (x y z : ℕ) → (x == y) ≡ true → y ≢ z → (x == z) ≡ false
@@ -206,3 +206,48 @@ module _ (next prev place : List ℕ) (n m : ℕ) (are : AreChained next prev pl
       place_len = length-set place s c ∙ are.place_len;
       each = put_chain (slice_set (slice_set next last s) s (n + c)) (slice_set (slice_set prev s last) (n + c) s) (slice_set place s c) (rw el refl) (rw el refl) refl;
     }
+
+-- ---- links as they are read, in the words of what callers see
+
+module _ (next prev place : List ℕ) (n m : ℕ) (are : AreChained next prev place n m) {seen : Links} (is : ◌≡◌ {A = Links} (record { next = next; place = place; slots = n; chains = m }) seen) (s : ℕ) (below : s < seen.slots) where
+  slot_below : s < n
+  slot_below = subst (λ (v : Links). s < v.slots) (sym is) below
+
+  -- a slot that is in a chain
+  module _ (somewhere : at seen.place s < seen.chains) where
+    in_one : at place s < m
+    in_one = subst (λ (v : Links). at v.place s < v.chains) (sym is) somewhere
+
+    module _ (before : ℕ) (read : before ≡ get_or prev s before) where
+      before_is : before ≡ at prev s
+      before_is = let pl = are.prev_len in let b = slot_below in link_of prev s before (omega (arith, pl, b)) read
+
+      pub next_room : before < length next
+      next_room = let nl = are.next_len in let e = before_is in let h = before_below next prev place n m are s slot_below in_one in omega (arith, nl, e, h)
+
+    module _ (after : ℕ) (read : after ≡ get_or next s after) where
+      after_is : after ≡ at next s
+      after_is = let nl = are.next_len in let b = slot_below in link_of next s after (omega (arith, nl, b)) read
+
+      pub prev_room : after < length prev
+      prev_room = let pl = are.prev_len in let e = after_is in let h = after_below next prev place n m are s slot_below in_one in omega (arith, pl, e, h)
+
+    pub taken_out : (before after : ℕ) → before ≡ get_or prev s before → after ≡ get_or next s after → AreChained (slice_set next before after) (slice_set prev after before) (slice_set place s m) n m
+    taken_out before after b a = removed next prev place n m are s slot_below in_one before after (before_is before b) (after_is after a)
+
+  -- a slot that is in none, and a chain whose last is read
+  module _ (nowhere : at seen.place s ≡ seen.chains) (c : ℕ) (chain : c < seen.chains) (last : ℕ) (read : last ≡ get_or prev (n + c) last) where
+    in_none : at place s ≡ m
+    in_none = subst (λ (v : Links). at v.place s ≡ v.chains) (sym is) nowhere
+
+    chain_below : c < m
+    chain_below = subst (λ (v : Links). c < v.chains) (sym is) chain
+
+    last_is : last ≡ at prev (n + c)
+    last_is = let pl = are.prev_len in let b = chain_below in link_of prev (n + c) last (omega (arith, pl, b)) read
+
+    pub last_room : last < length next
+    last_room = let nl = are.next_len in let e = last_is in let h = last_below next prev place n m are s c slot_below chain_below in_none in omega (arith, nl, e, h)
+
+    pub put_at_end : AreChained (slice_set (slice_set next last s) s (n + c)) (slice_set (slice_set prev s last) (n + c) s) (slice_set place s c) n m
+    put_at_end = put_in next prev place n m are s c slot_below chain_below in_none last last_is

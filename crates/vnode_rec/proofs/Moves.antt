@@ -1,14 +1,13 @@
 -- A slot gets or loses its vector.
-use Rattle.std.proofs.Common.{ℕ, ◌≡◌, ◌≢◌, ◌<◌, ◌≤◌, ◌+◌, ◌-◌, ◌^◌, Bool, true, false, not, ◌==◌, ◌&&◌, cond, refl, sym, ap, ◌∙◌, subst, inl, inr, List, [], ◌∷◌, ◌++◌, length, arith, slice_get, slice_set, Option, Some, None, IsSome}
+use Rattle.std.proofs.Common.{ℕ, ◌≡◌, ◌≢◌, ◌<◌, ◌≤◌, ◌+◌, ◌^◌, true, false, not, ◌==◌, ◌&&◌, cond, refl, sym, ap, ◌∙◌, subst, List, [], ◌∷◌, ◌++◌, length, arith, slice_get, slice_set, Option, Some, None}
 use Rattle.std.proofs.lemmas.List.{length-set}
 use Rattle.std.proofs.lemmas.Nat.{mod_below}
 use Rattle.op_vector.specs.declared.data.VKind.{VKind}
 use Rattle.op_vector.specs.declared.data.VKind.TheVariants as kind
 use Rattle.op_vector.specs.declared.data.VData.{VData}
 use Rattle.op_vector.specs.declared.data.VData.TheVariants.{Empty, Mem, Null, Union}
-use Rattle.op_vector.specs.declared.data.Vid.{Vid}
 use Rattle.op_vector.specs.declared.rack.RackOf.{RackOf}
-use Rattle.op_vector.specs.Rack.{boxes_of, room_of, with_boxes, IsByKind}
+use Rattle.op_vector.specs.Rack.{boxes_of, room_of, with_boxes}
 use Rattle.free_list.specs.Queue.{Queue, member, without}
 use Rattle.free_list.specs.Links.{at}
 use Rattle.free_list.proofs.Queues.{eq_yes, yes_eq, gone, others}
@@ -17,12 +16,11 @@ use Rattle.vnode_rec.specs.declared.slot.Slot.{Slot}
 use Rattle.vnode_rec.specs.Chains.{chain_of, mixed_all, seed_of, name_bytes}
 use Rattle.vnode_rec.specs.Identity.{identity}
 use Rattle.vnode_rec.specs.Holders.{Held, occurs}
-use Rattle.vnode_rec.specs.Vnodes.{Table, is_filled, is_live, identity_of, identity_at, kind_of_data, kind_of_slot, empty_slot, EachSlot, HasVector, HasNone, IsMatched, IsEmptyAt}
-use Rattle.vnode_rec.specs.Effects.{HasSwapped, HasEmptied, HasFilled}
-use Rattle.vnode_rec.specs.Sound.{IsSound, IsListed, IsSupplied, same_kind, has_kind, place_of}
-use Rattle.vnode_rec.proofs.Slots.{and_true, and_yes, no_box, unfilled, box_of, filled_by, is_live_as}
+use Rattle.vnode_rec.specs.Vnodes.{is_filled, is_live, identity_of, kind_of_data, kind_of_slot, empty_slot, EachSlot, HasVector}
+use Rattle.vnode_rec.specs.Sound.{IsSound, IsListed, same_kind, has_kind, place_of}
+use Rattle.vnode_rec.proofs.Slots.{and_true, unfilled, box_of, filled_by}
 use Rattle.vnode_rec.proofs.Held.{queued_other, queued_same}
-use Rattle.vnode_rec.proofs.Boxes.{same_refl, same_yes, given_len, given_room, taken_len, taken_room, within, some_left, room_for, supplied_as, still_matched}
+use Rattle.vnode_rec.proofs.Boxes.{same_refl, given_len, given_room, taken_len, taken_room, within, some_left, room_for, supplied_as, still_matched}
 use Rattle.vnode_rec.proofs.Changed.{empty_idle, same_current, idle_current, changed_sound}
 
 -- the chain of an identity is one of the chains

@@ -1,5 +1,5 @@
 -- Where a row has room, not every slot is held.
-use Rattle.std.proofs.Common.{ℕ, zero, suc, ◌≡◌, ◌≢◌, ◌<◌, ◌≤◌, ◌+◌, ◌*◌, true, false, ◌==◌, ◌&&◌, cond, refl, sym, ap, ◌∙◌, List, [], ◌∷◌, ◌++◌, length, arith, get_or, slice_get, slice_set, Some, All, sum_by, length-append}
+use Rattle.std.proofs.Common.{ℕ, zero, suc, ◌≡◌, ◌≢◌, ◌<◌, ◌≤◌, ◌+◌, ◌*◌, true, false, ◌==◌, cond, refl, sym, ap, ◌∙◌, List, [], ◌∷◌, ◌++◌, length, arith, get_or, slice_get, slice_set, Some, All, sum_by, length-append}
 use Rattle.std.proofs.lemmas.List.{length-set}
 use Rattle.std.proofs.lemmas.List.Sums.{sum_by-set, sum_by-cons, sum_by-le}
 use Rattle.std.proofs.lemmas.List.Elements.{All-set}
@@ -10,7 +10,7 @@ use Rattle.free_list.specs.Queue.{Queue, member}
 use Rattle.free_list.proofs.Queues.{yes_eq, no_eq, eq_no}
 use Rattle.vnode_rec.specs.declared.slot.Slot.{Slot}
 use Rattle.vnode_rec.specs.Holders.{Held, occurs, occurs_in, row_in}
-use Rattle.vnode_rec.specs.Vnodes.{is_filled, empty_slot, AreFilled, HasRoom}
+use Rattle.vnode_rec.specs.Vnodes.{empty_slot, AreFilled, HasRoom}
 use Rattle.vnode_rec.specs.Sound.{IsSound}
 
 -- the sum of f over the numbers below n

@@ -1,5 +1,5 @@
 -- The vnode of an identity as a function of the slots.
-use Rattle.std.proofs.Common.{ℕ, zero, suc, ◌≡◌, ◌≢◌, ◌<◌, ◌+◌, Bool, true, false, ◌==◌, ◌&&◌, cond, refl, sym, ap, ◌∙◌, subst, List, [], ◌∷◌, length, arith, slice_get, Option, Some, None, is_some}
+use Rattle.std.proofs.Common.{ℕ, zero, suc, ◌≡◌, ◌+◌, Bool, true, false, ◌==◌, ◌&&◌, cond, refl, ap, ◌∙◌, subst, List, [], ◌∷◌, arith, slice_get, Option, Some, None, is_some}
 use Rattle.free_list.proofs.Queues.{yes_eq, eq_yes}
 use Rattle.op_vector.specs.declared.data.Vid.{Vid}
 use Rattle.op_vector.specs.declared.data.VData.{VData}

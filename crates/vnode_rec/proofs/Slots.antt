@@ -1,9 +1,9 @@
 -- The slots by their numbers, and vnodes that are current.
-use Rattle.std.proofs.Common.{ℕ, ◌≡◌, ◌≢◌, ◌<◌, ◌≤◌, Bool, true, false, not, ◌==◌, ◌&&◌, cond, refl, sym, ap, ◌∙◌, subst, inl, inr, ◌⊎◌, List, length, arith, slice_get, slice_set, get_or, is_some, IsSome, Option, Some, None}
+use Rattle.std.proofs.Common.{ℕ, ◌≡◌, ◌≢◌, ◌<◌, ◌≤◌, Bool, true, false, not, ◌==◌, ◌&&◌, cond, refl, sym, ap, ◌∙◌, subst, inl, inr, ◌⊎◌, List, length, arith, slice_get, slice_set, is_some, IsSome, Option, Some, None}
 use Rattle.std.specs.Option.{option_and_then}
 use Rattle.std.proofs.lemmas.List.{length-set, get_or-set_same, get_or-set_other}
-use Rattle.std.proofs.lemmas.Option.{slice_get_within, slice_get-get_or, get_or_from_slice_get, slice_get_past}
-use Rattle.free_list.proofs.Queues.{eq_yes, eq_no, yes_eq, no_eq}
+use Rattle.std.proofs.lemmas.Option.{slice_get_within, slice_get-get_or, slice_get_past}
+use Rattle.free_list.proofs.Queues.{eq_yes, yes_eq, no_eq}
 use Rattle.op_vector.specs.declared.data.Vid.{Vid}
 use Rattle.op_vector.specs.declared.data.VData.{VData}
 use Rattle.vnode_rec.specs.declared.slot.Slot.{Slot}

@@ -1,13 +1,13 @@
 -- A walk along a chain.
-use Rattle.std.proofs.Common.{ℕ, ◌≡◌, ◌≢◌, ◌<◌, ◌≤◌, ◌+◌, Bool, true, false, ◌==◌, refl, sym, ap, ◌∙◌, subst, inl, inr, ◌⊎◌, List, [], ◌∷◌, length, arith, slice_get, get_or, Option, Some}
-use Rattle.std.proofs.lemmas.Option.{slice_get_within, get_or_from_slice_get, slice_get-get_or}
+use Rattle.std.proofs.Common.{ℕ, ◌≡◌, ◌<◌, ◌≤◌, ◌+◌, true, refl, sym, ap, ◌∙◌, subst, inl, inr, List, [], ◌∷◌, length, arith, slice_get, get_or, Option, Some}
+use Rattle.std.proofs.lemmas.Option.{slice_get_within, slice_get-get_or}
 use Rattle.op_vector.specs.declared.data.VData.{VData}
 use Rattle.free_list.specs.Queue.{member}
-use Rattle.free_list.specs.Links.{at, Path, Apart}
+use Rattle.free_list.specs.Links.{at, Path}
 use Rattle.free_list.proofs.Queues.{eq_yes, in_or, few}
 use Rattle.vnode_rec.specs.declared.slot.Slot.{Slot}
-use Rattle.vnode_rec.specs.Chains.{IsChain, AreChained}
-use Rattle.vnode_rec.specs.Vnodes.{HasIdentity, identity_of}
+use Rattle.vnode_rec.specs.Chains.{AreChained}
+use Rattle.vnode_rec.specs.Vnodes.{HasIdentity}
 use Rattle.vnode_rec.proofs.Links.{listed_at}
 
 -- from `a` the links lead along the list to the end

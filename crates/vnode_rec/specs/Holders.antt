@@ -1,5 +1,5 @@
 -- The rows of holders, and how often a slot stands in them.
-use Rattle.std.specs.Prelude.{ℕ, ◌≡◌, ◌<◌, ◌≤◌, ◌*◌, ◌^◌, ◌==◌, Bool, true, false, cond, nat_lt, List, [], ◌∷◌, ◌++◌, length, take, Option, Some, None, All, slice_get, slice_set, slice_index_or, slice_index, sum_by, count_by}
+use Rattle.std.specs.Prelude.{ℕ, ◌≡◌, ◌<◌, ◌≤◌, ◌*◌, ◌^◌, ◌==◌, cond, nat_lt, List, [], ◌∷◌, ◌++◌, length, take, Option, All, slice_get, slice_set, slice_index_or, slice_index, sum_by, count_by}
 use Rattle.std.specs.Option.{option_and_then}
 use Rattle.op_vector.specs.declared.data.Vid.{Vid}
 

@@ -1,5 +1,5 @@
 -- What is true of the fields of a table of vnodes.
-use Rattle.std.specs.Prelude.{ℕ, ◌≡◌, ◌<◌, ◌≤◌, ◌+◌, ◌*◌, ◌^◌, ◌==◌, ◌&&◌, not, Bool, true, false, cond, List, length, Option, Some, All, IsSome, count_by, slice_get}
+use Rattle.std.specs.Prelude.{ℕ, ◌≡◌, ◌<◌, ◌≤◌, ◌+◌, ◌*◌, ◌^◌, ◌==◌, ◌&&◌, not, Bool, true, false, cond, List, length, Some, All, IsSome, count_by, slice_get}
 use Rattle.op_vector.specs.declared.data.VKind.{VKind}
 use Rattle.op_vector.specs.declared.data.VKind.TheVariants.{Mem, Null, Union, Dead}
 use Rattle.op_vector.specs.declared.data.Vid.{Vid}

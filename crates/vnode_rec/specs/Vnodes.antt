@@ -1,5 +1,5 @@
 -- What contracts see of a table of vnodes.
-use Rattle.std.specs.Prelude.{ℕ, suc, ◌≡◌, ◌<◌, ◌≤◌, ◌&&◌, Bool, true, false, not, ◌==◌, cond, List, [], ◌∷◌, ◌++◌, length, Option, Some, None, IsSome, All, count_by, is_some, unwrap_or, slice_get, slice_set}
+use Rattle.std.specs.Prelude.{ℕ, suc, ◌≡◌, ◌<◌, ◌≤◌, ◌&&◌, Bool, true, false, not, ◌==◌, cond, List, [], ◌∷◌, length, Option, Some, None, IsSome, is_some, unwrap_or, slice_get}
 use Rattle.std.specs.Option.{option_map, option_and_then}
 use Rattle.op_vector.specs.declared.data.VKind.{VKind}
 use Rattle.op_vector.specs.declared.data.VKind.TheVariants as kind

@@ -1,3 +1,4 @@
+// The chains by which vnodes are found: put into one, taken out and searched, each in constant time but the search.
 ghost use Rattle.std.specs.Prelude.{◌≡◌, ◌≢◌, ◌<◌, ◌≤◌, ◌+◌, ◌*◌, ◌^◌, ℕ, length, IfOk, IfSome, IfNone, slice_set};
 ghost use Rattle.std.specs.Option.{option_copied};
 ghost use Rattle.free_list.specs.Links.{at, AreLoopedTo};

@@ -1,3 +1,4 @@
+// The rows of holders and the counts of each slot: a vnode put on a row or taken out changes both.
 ghost use Rattle.std.specs.Prelude.{◌≡◌, ◌<◌, ◌≤◌, ◌+◌, ◌-◌, ◌*◌, ◌==◌, ◌^◌, ℕ, [], ◌∷◌, ◌++◌, cond, length, take, All, IfOk, slice_set, slice_index};
 ghost use Rattle.vnode_rec.specs.Holders.{Held, row_in, held_in, pushed, weight, occurs};
 

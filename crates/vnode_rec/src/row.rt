@@ -1,3 +1,4 @@
+// One row of holders: at most nine vnodes, put on top and taken from there.
 ghost use Rattle.std.specs.Prelude.{◌≡◌, ◌<◌, ◌≤◌, [], ◌∷◌, ◌++◌, length, slice_get};
 
 use op_vector::Vid;

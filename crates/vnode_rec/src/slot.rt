@@ -1,3 +1,4 @@
+// A slot of the vnode table, and the data by which its vnode is found.
 ghost use Rattle.std.specs.Prelude.{◌≡◌, ◌↔◌, true, IsTrue};
 ghost use Rattle.std.specs.Option.{option_copied};
 ghost use Rattle.vnode_rec.specs.Identity.{found_by, identity};

@@ -1,3 +1,4 @@
+// The table of vnodes: its calls fill and empty slots, hold vnodes and let them go, doom them and find them.
 ghost use Rattle.std.specs.Prelude.{◌≡◌, ◌≢◌, ◌<◌, ◌≤◌, ◌+◌, ◌*◌, ◌^◌, ◌==◌, ◌&&◌, ◌↔◌, ℕ, [], false, true, length, take, Some, None, Option, List, All, IsNone, IsSome, IfSome, IfNone, IfOk, slice_set};
 ghost use Rattle.std.specs.Option.{option_copied, option_map};
 ghost use Rattle.op_vector.specs.declared.data.VKind.{VKind};

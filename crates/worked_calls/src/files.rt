@@ -1,3 +1,4 @@
+// Worked calls on contents and descriptors: offsets, gaps, the greatest size, and what a doom leaves.
 ghost use Rattle.std.specs.Prelude.{◌≡◌, codes, pos, [], ◌∷◌};
 ghost use Rattle.vfs_tree.specs.Place.{Mem};
 ghost use Rattle.vfs_tree.specs.declared.node.Node.TheVariants.{File};

@@ -1,3 +1,4 @@
+// Worked mounts and unmounts, of each kind and by force.
 ghost use Rattle.std.specs.Prelude.{◌≡◌, codes};
 ghost use Rattle.vfs_tree.specs.Start.{empty_store};
 ghost use Rattle.call_model.specs.Apply.{Finished, Needs, apply};

@@ -1,3 +1,4 @@
+// Worked calls on names: what is made once, absent, moved, followed and linked.
 ghost use Rattle.std.specs.Prelude.{◌≡◌, codes};
 ghost use Rattle.call_model.specs.Apply.{Finished, apply};
 ghost use Rattle.vfs_tree.specs.declared.errno.Errno.TheVariants as errno;

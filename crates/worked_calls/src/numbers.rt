@@ -1,3 +1,4 @@
+// Worked calls where no inode number or mount number is left: nothing is made or mounted.
 ghost use Rattle.std.specs.Prelude.{◌≡◌, codes};
 ghost use Rattle.call_model.specs.Apply.{Finished, apply};
 ghost use Rattle.vfs_tree.specs.declared.errno.Errno.TheVariants as errno;

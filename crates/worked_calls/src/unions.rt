@@ -1,3 +1,4 @@
+// Worked calls in a union: whiteouts, shadow directories, copies and opaque directories.
 ghost use Rattle.std.specs.Prelude.{◌≡◌, codes};
 ghost use Rattle.call_model.specs.Apply.{Finished, Needs, apply};
 ghost use Rattle.call_model.specs.Effects.{effect};

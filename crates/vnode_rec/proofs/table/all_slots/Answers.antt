@@ -1,4 +1,4 @@
-use Rattle.std.proofs.Common.{ℕ, ◌≡◌, ◌∙◌, ap, subst, sym, ltb}
+use Rattle.std.proofs.Common.{◌∙◌, ap}
 use Rattle.free_list.specs.Queue.{Queue, member}
 use Rattle.vnode_rec.proofs.Fresh.{one_more}
 use Rattle.vnode_rec.proofs.table.all_slots.Goals as goal

@@ -1,4 +1,4 @@
-use Rattle.std.proofs.Common.{◌≡◌, ◌∙◌, ap, subst, sym, All, length, List, refl, arith, length-append, [], ◌∷◌}
+use Rattle.std.proofs.Common.{◌≡◌, ap, subst, sym, All, length, List, refl, arith, length-append, [], ◌∷◌}
 use Rattle.std.proofs.lemmas.List.Elements.{All-push}
 use Rattle.vnode_rec.specs.declared.slot.Slot.{Slot}
 use Rattle.vnode_rec.specs.Vnodes.{empty_slot}

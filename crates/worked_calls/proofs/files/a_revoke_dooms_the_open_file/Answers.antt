@@ -13,7 +13,7 @@ use Rattle.worked_calls.proofs.files.a_revoke_dooms_the_open_file.Goals as goal
 pub returns-clause-doom : goal.returns-clause-doom
 returns-clause-doom c =
     by_walk read_f 2 (call.Revoke (codes "/f")) leaf.Follow (codes "/f") (found.At (Mem 0 2)) _ refl refl
-    (f_file (facts_of read_f) (simp rows refl) (simp rows refl) (simp rows refl) (simp rows refl) (simp rows refl) (simp rows refl))
+    (f_file (facts_of read_f) (record { bare = simp rows refl; kind = simp rows refl; dir = simp rows refl }) (simp rows refl) (simp rows refl) (simp rows refl))
     (simp rows refl)
 
 pub returns-clause-effect : goal.returns-clause-effect
@@ -22,5 +22,5 @@ returns-clause-effect c = simp rows refl
 pub returns-clause-done : goal.returns-clause-done
 returns-clause-done c =
     by_walk dead_f 2 (call.Revoke (codes "/f")) leaf.Follow (codes "/f") (found.At (Mem 0 2)) _ refl refl
-    (f_file (facts_of dead_f) (simp rows refl) (simp rows refl) (simp rows refl) (simp rows refl) (simp rows refl) (simp rows refl))
+    (f_file (facts_of dead_f) (record { bare = simp rows refl; kind = simp rows refl; dir = simp rows refl }) (simp rows refl) (simp rows refl) (simp rows refl))
     (simp rows refl)

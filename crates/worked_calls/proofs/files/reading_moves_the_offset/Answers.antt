@@ -14,7 +14,7 @@ use Rattle.worked_calls.proofs.files.reading_moves_the_offset.Goals as goal
 pub returns-clause-open : goal.returns-clause-open
 returns-clause-open c =
     by_walk with_f 1 (call.Open (codes "/f") (flags access.Read)) leaf.Follow (codes "/f") (found.At (Mem 0 2)) _ refl refl
-    (f_file (facts_of with_f) (simp rows refl) (simp rows refl) (simp rows refl) (simp rows refl) (simp rows refl) (simp rows refl))
+    (f_file (facts_of with_f) (record { bare = simp rows refl; kind = simp rows refl; dir = simp rows refl }) (simp rows refl) (simp rows refl) (simp rows refl))
     (simp rows refl)
 
 pub returns-clause-read : goal.returns-clause-read

@@ -13,7 +13,7 @@ use Rattle.worked_calls.proofs.mounts.a_forced_unmount_dooms_the_deeper_referenc
 pub returns-clause-detach : goal.returns-clause-detach
 returns-clause-detach c =
     by_walk used 1 (call.UmountForce (codes "/a")) leaf.Mount (codes "/a") (found.Mount 1) _ refl refl
-    (a_mount (facts_of used) (simp rows refl) (simp rows refl) (simp rows refl) (simp rows refl) (simp rows refl) (simp rows refl) (simp rows refl) (simp rows refl))
+    (a_mount (facts_of used) (record { bare = simp rows refl; kind = simp rows refl; dir = simp rows refl }) (simp rows refl) (simp rows refl) (simp rows refl) (simp rows refl) (simp rows refl))
     (simp rows refl)
 
 pub returns-clause-detached : goal.returns-clause-detached
@@ -37,5 +37,5 @@ returns-clause-gone c = simp rows refl
 pub returns-clause-cut : goal.returns-clause-cut
 returns-clause-cut c =
     by_walk gone 2 (call.Stat (codes "/b")) leaf.Follow (codes "/b") (found.Refused errno.EIO) _ refl refl
-    (b_cut (facts_of gone) (simp rows refl) (simp rows refl) (simp rows refl) (simp rows refl) (simp rows refl) (simp rows refl) (simp rows refl))
+    (b_cut (facts_of gone) (record { bare = simp rows refl; kind = simp rows refl; dir = simp rows refl }) (simp rows refl) (simp rows refl) (simp rows refl) (simp rows refl))
     (simp rows refl)

@@ -13,25 +13,25 @@ use Rattle.worked_calls.proofs.mounts.a_null_layer_keeps_its_mount_busy.Goals as
 pub returns-clause-mount : goal.returns-clause-mount
 returns-clause-mount c =
     by_walks mounted 1 (call.MountNull (codes "/a") (codes "/b")) leaf.Follow (codes "/a") (found.At (Mem 1 1)) leaf.Follow (codes "/b") (found.At (Mem 0 3)) _ refl refl
-    (a_mounted (facts_of mounted) (simp rows refl) (simp rows refl) (simp rows refl) (simp rows refl) (simp rows refl) (simp rows refl) (simp rows refl) (simp rows refl))
-    (b_dir (facts_of mounted) (simp rows refl) (simp rows refl) (simp rows refl) (simp rows refl) (simp rows refl) (simp rows refl))
+    (a_mounted (facts_of mounted) (record { bare = simp rows refl; kind = simp rows refl; dir = simp rows refl }) (simp rows refl) (simp rows refl) (simp rows refl) (simp rows refl) (simp rows refl))
+    (b_dir (facts_of mounted) (record { bare = simp rows refl; kind = simp rows refl; dir = simp rows refl }) (simp rows refl) (simp rows refl) (simp rows refl))
     (simp rows refl)
 
 pub returns-clause-busy : goal.returns-clause-busy
 returns-clause-busy c =
     by_walk viewed 1 (call.Umount (codes "/a")) leaf.Mount (codes "/a") (found.Mount 1) _ refl refl
-    (a_mount (facts_of viewed) (simp rows refl) (simp rows refl) (simp rows refl) (simp rows refl) (simp rows refl) (simp rows refl) (simp rows refl) (simp rows refl))
+    (a_mount (facts_of viewed) (record { bare = simp rows refl; kind = simp rows refl; dir = simp rows refl }) (simp rows refl) (simp rows refl) (simp rows refl) (simp rows refl) (simp rows refl))
     (simp rows refl)
 
 pub returns-clause-view : goal.returns-clause-view
 returns-clause-view c =
     by_walk viewed 1 (call.Umount (codes "/b")) leaf.Mount (codes "/b") (found.Mount 2) _ refl refl
-    (b_mount (facts_of viewed) (simp rows refl) (simp rows refl) (simp rows refl) (simp rows refl) (simp rows refl) (simp rows refl) (simp rows refl) (simp rows refl))
+    (b_mount (facts_of viewed) (record { bare = simp rows refl; kind = simp rows refl; dir = simp rows refl }) (simp rows refl) (simp rows refl) (simp rows refl) (simp rows refl) (simp rows refl))
     (simp rows refl)
 
 pub returns-clause-itself : goal.returns-clause-itself
 returns-clause-itself c =
     by_walks with_ab 1 (call.MountNull (codes "/a") (codes "/a")) leaf.Follow (codes "/a") (found.At (Mem 0 2)) leaf.Follow (codes "/a") (found.At (Mem 0 2)) _ refl refl
-    (a_dir (facts_of with_ab) (simp rows refl) (simp rows refl) (simp rows refl) (simp rows refl) (simp rows refl) (simp rows refl))
-    (a_dir (facts_of with_ab) (simp rows refl) (simp rows refl) (simp rows refl) (simp rows refl) (simp rows refl) (simp rows refl))
+    (a_dir (facts_of with_ab) (record { bare = simp rows refl; kind = simp rows refl; dir = simp rows refl }) (simp rows refl) (simp rows refl) (simp rows refl))
+    (a_dir (facts_of with_ab) (record { bare = simp rows refl; kind = simp rows refl; dir = simp rows refl }) (simp rows refl) (simp rows refl) (simp rows refl))
     (simp rows refl)

@@ -14,13 +14,13 @@ use Rattle.worked_calls.proofs.mounts.a_union_is_mounted_on_its_lower_layer.Goal
 pub returns-clause-mount : goal.returns-clause-mount
 returns-clause-mount c =
     by_walks (apart empty_store) 1 (call.MountUnion (codes "/u") (codes "/l")) leaf.Follow (codes "/u") (found.At (Mem 1 1)) leaf.Follow (codes "/l") (found.At (Mem 0 2)) _ refl refl
-    (u_mounted (facts_of (apart empty_store)) (simp rows refl) (simp rows refl) (simp rows refl) (simp rows refl) (simp rows refl) (simp rows refl) (simp rows refl) (simp rows refl))
-    (l_dir (facts_of (apart empty_store)) (simp rows refl) (simp rows refl) (simp rows refl) (simp rows refl) (simp rows refl) (simp rows refl))
+    (u_mounted (facts_of (apart empty_store)) (record { bare = simp rows refl; kind = simp rows refl; dir = simp rows refl }) (simp rows refl) (simp rows refl) (simp rows refl) (simp rows refl) (simp rows refl))
+    (l_dir (facts_of (apart empty_store)) (record { bare = simp rows refl; kind = simp rows refl; dir = simp rows refl }) (simp rows refl) (simp rows refl) (simp rows refl))
     (simp rows refl)
 
 pub returns-clause-same : goal.returns-clause-same
 returns-clause-same c =
     by_walks with_ab 1 (call.MountUnion (codes "/a") (codes "/b")) leaf.Follow (codes "/a") (found.At (Mem 0 2)) leaf.Follow (codes "/b") (found.At (Mem 0 3)) _ refl refl
-    (a_dir (facts_of with_ab) (simp rows refl) (simp rows refl) (simp rows refl) (simp rows refl) (simp rows refl) (simp rows refl))
-    (b_dir (facts_of with_ab) (simp rows refl) (simp rows refl) (simp rows refl) (simp rows refl) (simp rows refl) (simp rows refl))
+    (a_dir (facts_of with_ab) (record { bare = simp rows refl; kind = simp rows refl; dir = simp rows refl }) (simp rows refl) (simp rows refl) (simp rows refl))
+    (b_dir (facts_of with_ab) (record { bare = simp rows refl; kind = simp rows refl; dir = simp rows refl }) (simp rows refl) (simp rows refl) (simp rows refl))
     (simp rows refl)

@@ -13,6 +13,6 @@ use Rattle.worked_calls.proofs.names.a_directory_does_not_go_below_itself.Goals 
 pub returns : goal.returns
 returns c =
     by_walks with_a 1 (call.Rename (codes "/a") (codes "/a/b")) leaf.Parent (codes "/a") (found.In (Mem 0 1) (codes "a") (Some (Mem 0 2))) leaf.Parent (codes "/a/b") (found.In (Mem 0 2) (codes "b") None) _ refl refl
-    (a_named (facts_of with_a) (simp rows refl) (simp rows refl) (simp rows refl) (simp rows refl))
-    (b_in_a (facts_of with_a) (simp rows refl) (simp rows refl) (simp rows refl) (simp rows refl) (simp rows refl) (simp rows refl) (simp rows refl) (simp rows refl) (simp rows refl))
+    (a_named (facts_of with_a) (record { bare = simp rows refl; kind = simp rows refl; dir = simp rows refl }) (simp rows refl))
+    (b_in_a (facts_of with_a) (record { bare = simp rows refl; kind = simp rows refl; dir = simp rows refl }) (simp rows refl) (simp rows refl) (simp rows refl) (simp rows refl) (simp rows refl) (simp rows refl))
     (simp rows refl)

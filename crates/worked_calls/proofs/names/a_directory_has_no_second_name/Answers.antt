@@ -13,13 +13,13 @@ use Rattle.worked_calls.proofs.names.a_directory_has_no_second_name.Goals as goa
 pub returns-clause-directory : goal.returns-clause-directory
 returns-clause-directory c =
     by_walks with_a 1 (call.Link (codes "/a") (codes "/b")) leaf.Follow (codes "/a") (found.At (Mem 0 2)) leaf.Parent (codes "/b") (found.In (Mem 0 1) (codes "b") None) _ refl refl
-    (a_dir (facts_of with_a) (simp rows refl) (simp rows refl) (simp rows refl) (simp rows refl) (simp rows refl) (simp rows refl))
-    (b_missing (facts_of with_a) (simp rows refl) (simp rows refl) (simp rows refl) (simp rows refl))
+    (a_dir (facts_of with_a) (record { bare = simp rows refl; kind = simp rows refl; dir = simp rows refl }) (simp rows refl) (simp rows refl) (simp rows refl))
+    (b_missing (facts_of with_a) (record { bare = simp rows refl; kind = simp rows refl; dir = simp rows refl }) (simp rows refl))
     (simp rows refl)
 
 pub returns-clause-file : goal.returns-clause-file
 returns-clause-file c =
     by_walks with_f 1 (call.Link (codes "/f") (codes "/g")) leaf.Follow (codes "/f") (found.At (Mem 0 2)) leaf.Parent (codes "/g") (found.In (Mem 0 1) (codes "g") None) _ refl refl
-    (f_file (facts_of with_f) (simp rows refl) (simp rows refl) (simp rows refl) (simp rows refl) (simp rows refl) (simp rows refl))
-    (g_missing (facts_of with_f) (simp rows refl) (simp rows refl) (simp rows refl) (simp rows refl))
+    (f_file (facts_of with_f) (record { bare = simp rows refl; kind = simp rows refl; dir = simp rows refl }) (simp rows refl) (simp rows refl) (simp rows refl))
+    (g_missing (facts_of with_f) (record { bare = simp rows refl; kind = simp rows refl; dir = simp rows refl }) (simp rows refl))
     (simp rows refl)

@@ -14,11 +14,11 @@ use Rattle.worked_calls.proofs.names.a_link_to_itself_is_followed_no_further.Goa
 pub returns-clause-stat : goal.returns-clause-stat
 returns-clause-stat c =
     by_walk with_z 1 (call.Stat (codes "/z")) leaf.Follow (codes "/z") (found.Refused errno.ELOOP) _ refl refl
-    (z_loop (facts_of with_z) (simp rows refl) (simp rows refl) (simp rows refl) (simp rows refl) (simp rows refl))
+    (z_loop (facts_of with_z) (record { bare = simp rows refl; kind = simp rows refl; dir = simp rows refl }) (simp rows refl) (simp rows refl))
     (simp rows refl)
 
 pub returns-clause-lstat : goal.returns-clause-lstat
 returns-clause-lstat c =
     by_walk with_z 1 (call.Lstat (codes "/z")) leaf.NoFollow (codes "/z") (found.At (Mem 0 2)) _ refl refl
-    (z_link (facts_of with_z) (simp rows refl) (simp rows refl) (simp rows refl) (simp rows refl) (simp rows refl))
+    (z_link (facts_of with_z) (record { bare = simp rows refl; kind = simp rows refl; dir = simp rows refl }) (simp rows refl) (simp rows refl))
     (simp rows refl)

@@ -13,5 +13,5 @@ use Rattle.worked_calls.proofs.numbers.no_mount_without_a_number.Goals as goal
 pub returns : goal.returns
 returns c =
     by_walk all_mounted 1 (call.MountMem (codes "/a")) leaf.Follow (codes "/a") (found.At (Mem 0 2)) _ refl refl
-    (a_dir (facts_of all_mounted) (simp rows refl) (simp rows refl) (simp rows refl) (simp rows refl) (simp rows refl) (simp rows refl))
+    (a_dir (facts_of all_mounted) (record { bare = simp rows refl; kind = simp rows refl; dir = simp rows refl }) (simp rows refl) (simp rows refl) (simp rows refl))
     (simp rows refl)

@@ -14,29 +14,29 @@ use Rattle.worked_calls.proofs.unions.a_directory_that_is_made_again_is_opaque.G
 pub returns-clause-full : goal.returns-clause-full
 returns-clause-full c =
     by_walk shadowed 1 (call.Rmdir (codes "/l/d")) leaf.Parent (codes "/l/d") (found.In (UnionUp 2 1) (codes "d") (Some (UnionUp 2 2))) _ refl refl
-    (d_up_named (facts_of shadowed) (simp rows refl) (simp rows refl) (simp rows refl) (simp rows refl) (simp rows refl) (simp rows refl) (simp rows refl) (simp rows refl) (simp rows refl) (simp rows refl) (simp rows refl))
+    (d_up_named (facts_of shadowed) (record { root = record { bare = simp rows refl; kind = simp rows refl; dir = simp rows refl }; entry = simp rows refl; target = simp rows refl; covered = simp rows refl; mount = simp rows refl; bare = simp rows refl; is_dir = simp rows refl; dir = simp rows refl }) (simp rows refl))
     (simp rows refl)
 
 pub returns-clause-unlink : goal.returns-clause-unlink
 returns-clause-unlink c =
     by_walk shadowed 1 (call.Unlink (codes "/l/d/x")) leaf.Parent (codes "/l/d/x") (found.In (UnionUp 2 2) (codes "x") (Some (UnionLow 2 2 (codes "x") (Mem 0 6)))) _ refl refl
-    (x_low_named (facts_of shadowed) (simp rows refl) (simp rows refl) (simp rows refl) (simp rows refl) (simp rows refl) (simp rows refl) (simp rows refl) (simp rows refl) (simp rows refl) (simp rows refl) (simp rows refl) (simp rows refl) (simp rows refl) (simp rows refl) (simp rows refl) (simp rows refl) (simp rows refl) (simp rows refl) (simp rows refl) (simp rows refl) (simp rows refl))
+    (x_low_named (facts_of shadowed) (record { root = record { bare = simp rows refl; kind = simp rows refl; dir = simp rows refl }; entry = simp rows refl; target = simp rows refl; covered = simp rows refl; mount = simp rows refl; bare = simp rows refl; is_dir = simp rows refl; dir = simp rows refl }) (simp rows refl) (simp rows refl) (simp rows refl) (simp rows refl) (simp rows refl) (simp rows refl) (simp rows refl) (simp rows refl) (simp rows refl) (simp rows refl) (simp rows refl))
     (simp rows refl)
 
 pub returns-clause-rmdir : goal.returns-clause-rmdir
 returns-clause-rmdir c =
     by_walk emptied 1 (call.Rmdir (codes "/l/d")) leaf.Parent (codes "/l/d") (found.In (UnionUp 2 1) (codes "d") (Some (UnionUp 2 2))) _ refl refl
-    (d_up_named (facts_of emptied) (simp rows refl) (simp rows refl) (simp rows refl) (simp rows refl) (simp rows refl) (simp rows refl) (simp rows refl) (simp rows refl) (simp rows refl) (simp rows refl) (simp rows refl))
+    (d_up_named (facts_of emptied) (record { root = record { bare = simp rows refl; kind = simp rows refl; dir = simp rows refl }; entry = simp rows refl; target = simp rows refl; covered = simp rows refl; mount = simp rows refl; bare = simp rows refl; is_dir = simp rows refl; dir = simp rows refl }) (simp rows refl))
     (simp rows refl)
 
 pub returns-clause-mkdir : goal.returns-clause-mkdir
 returns-clause-mkdir c =
     by_walk removed 1 (call.Mkdir (codes "/l/d")) leaf.Parent (codes "/l/d") (found.In (UnionUp 2 1) (codes "d") None) _ refl refl
-    (d_hidden_named (facts_of removed) (simp rows refl) (simp rows refl) (simp rows refl) (simp rows refl) (simp rows refl) (simp rows refl) (simp rows refl) (simp rows refl) (simp rows refl) (simp rows refl) (simp rows refl))
+    (d_hidden_named (facts_of removed) (record { root = record { bare = simp rows refl; kind = simp rows refl; dir = simp rows refl }; entry = simp rows refl; target = simp rows refl; covered = simp rows refl; mount = simp rows refl; bare = simp rows refl; is_dir = simp rows refl; dir = simp rows refl }) (simp rows refl))
     (simp rows refl)
 
 pub returns-clause-absent : goal.returns-clause-absent
 returns-clause-absent c =
     by_walk remade 1 (call.Stat (codes "/l/d/x")) leaf.Follow (codes "/l/d/x") (found.Refused errno.ENOENT) _ refl refl
-    (x_hidden (facts_of remade) (simp rows refl) (simp rows refl) (simp rows refl) (simp rows refl) (simp rows refl) (simp rows refl) (simp rows refl) (simp rows refl) (simp rows refl) (simp rows refl) (simp rows refl) (simp rows refl) (simp rows refl) (simp rows refl) (simp rows refl) (simp rows refl))
+    (x_hidden (facts_of remade) (record { root = record { bare = simp rows refl; kind = simp rows refl; dir = simp rows refl }; entry = simp rows refl; target = simp rows refl; covered = simp rows refl; mount = simp rows refl; bare = simp rows refl; is_dir = simp rows refl; dir = simp rows refl }) (simp rows refl) (simp rows refl) (simp rows refl) (simp rows refl) (simp rows refl) (simp rows refl))
     (simp rows refl)

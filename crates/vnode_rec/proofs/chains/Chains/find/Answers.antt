@@ -1,6 +1,5 @@
-use Rattle.std.proofs.Common.{◌≡◌, ◌<◌, ◌≤◌, ◌+◌, true, false, sym, subst, ap, ◌∙◌, arith, length, List, slice_get, Some}
+use Rattle.std.proofs.Common.{◌≡◌, ◌<◌, ◌+◌, true, false, sym, subst, ◌∙◌, arith, length, slice_get, Some}
 use Rattle.std.specs.Option.{option_copied}
-use Rattle.op_vector.specs.declared.data.VData.{VData}
 use Rattle.free_list.specs.Links.{at}
 use Rattle.vnode_rec.specs.declared.slot.Slot.{Slot}
 use Rattle.vnode_rec.specs.Chains.{Links, AreChained}

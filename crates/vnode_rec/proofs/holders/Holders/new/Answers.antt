@@ -1,4 +1,4 @@
-use Rattle.std.proofs.Common.{◌∙◌, ◌<◌, ◌≤◌, sym, arith}
+use Rattle.std.proofs.Common.{◌∙◌, sym, arith}
 use Rattle.vnode_rec.proofs.Counts.{nothing_counted}
 use Rattle.vnode_rec.proofs.holders.Holders.new.Goals as goal
 

@@ -1,6 +1,5 @@
-use Rattle.std.proofs.Common.{◌≡◌, ◌<◌, ◌≤◌, ◌+◌, ◌-◌, sym, subst, ap, ◌∙◌, ◌++◌, ◌∷◌, [], List, length, slice_index, slice_set}
-use Rattle.op_vector.specs.declared.data.Vid.{Vid}
-use Rattle.vnode_rec.specs.Holders.{Held, AreCounted, row_in, weight}
+use Rattle.std.proofs.Common.{◌≡◌, ◌<◌, ◌-◌, sym, subst, ap, ◌∙◌, ◌++◌, ◌∷◌, [], length, slice_index, slice_set}
+use Rattle.vnode_rec.specs.Holders.{Held, row_in, weight}
 use Rattle.vnode_rec.proofs.Counts.{popped_below, use_lower, hold_lower, left, row_of}
 use Rattle.vnode_rec.proofs.holders.Holders.pop.Goals as goal
 

@@ -1,6 +1,6 @@
-use Rattle.std.proofs.Common.{◌≡◌, ◌<◌, ◌+◌, ◌-◌, ◌^◌, sym, subst, ap, ◌∙◌, ◌++◌, ◌∷◌, [], List, length, slice_index, slice_set}
+use Rattle.std.proofs.Common.{◌≡◌, ◌<◌, ◌+◌, sym, subst, ap, ◌∙◌, ◌++◌, ◌∷◌, [], List, length, slice_index, slice_set}
 use Rattle.op_vector.specs.declared.data.Vid.{Vid}
-use Rattle.vnode_rec.specs.Holders.{Held, AreCounted, row_in, pushed, weight}
+use Rattle.vnode_rec.specs.Holders.{Held, row_in, weight}
 use Rattle.vnode_rec.proofs.Counts.{use_raise, hold_raise, took, row_of}
 use Rattle.vnode_rec.proofs.holders.Holders.push.Goals as goal
 

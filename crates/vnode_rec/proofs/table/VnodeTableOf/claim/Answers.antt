@@ -1,35 +1,22 @@
-use Rattle.std.proofs.Common.{ℕ, ◌≡◌, ◌≢◌, ◌<◌, ◌≤◌, ◌+◌, ◌-◌, ◌^◌, ◌∙◌, ◌∷◌, List, [], length, sym, ap, arith, get_or, slice_get, subst, refl, true, false, inl, inr, Option, Some, None, IsNone}
-use Rattle.std.proofs.lemmas.Option.{get_or_from_slice_get, slice_get-get_or}
-use Rattle.free_list.specs.Queue.{Queue, member, without}
+use Rattle.std.proofs.Common.{◌≡◌, ◌∙◌, [], ap, sym, arith, slice_get, refl, true, subst, inl, inr, Some}
+use Rattle.free_list.specs.Queue.{member}
 use Rattle.vnode_rec.specs.declared.slot.Slot.{Slot}
-use Rattle.vnode_rec.specs.Sound.{IsSound}
-use Rattle.vnode_rec.specs.Vnodes.{Table, AreFilled, IsEmptyAt, EachSlot}
-use Rattle.vnode_rec.specs.Effects.{HasNoSlot, HasClaimed, HasEmptied}
-use Rattle.vnode_rec.proofs.Claims.{first_below, all_filled, empty_at, not_all_filled, front_can_rise, no_slot_at}
+use Rattle.vnode_rec.specs.Vnodes.{Table}
+use Rattle.vnode_rec.proofs.Claims as claims
 use Rattle.vnode_rec.proofs.Growth.{grows_same, emptied_grows, emptied_is_empty, emptied_absent}
 use Rattle.vnode_rec.proofs.table.VnodeTableOf.claim.Goals as goal
 
 pub index-requires : goal.index-requires
 index-requires g c =
     let f = c.self.inside in
-    let X : Type 0 = g.row.B.Denot in
-    let sound : IsSound f.slots.items f.holders f.free f.empty f.chains.place f.chains.slots f.chains.chains f.rack = c.self.invariant in
-    let s : ℕ = c.in-Some-front.front in
-    let small = first_below f.free.queue s (without s f.free.queue) f.free.slots c.in-Some-front.ensures.front c.in-Some-front.ensures.below in
-    let len = sound.sizes.free_len in
-    let below : s < length f.slots.items = omega (arith, small, len) in
-    let ok = f.slots.ok in omega (arith, ok, below)
+    let below = claims.front_below f.slots.items f.holders f.free f.empty f.chains.place f.chains.slots f.chains.chains f.rack c.self.invariant c.self.view_is c.in-Some-front.front c.in-Some-front.ensures.front c.in-Some-front.ensures.below in
+    let ok = f.slots.ok in
+    omega (arith, ok, below)
 
 pub reclaim-requires-clause-below : goal.reclaim-requires-clause-below
 reclaim-requires-clause-below g c =
     let f = c.self.inside in
-    let X : Type 0 = g.row.B.Denot in
-    let sound : IsSound f.slots.items f.holders f.free f.empty f.chains.place f.chains.slots f.chains.chains f.rack = c.self.invariant in
-    let s : ℕ = c.in-Some-front.front in
-    let small = first_below f.free.queue s (without s f.free.queue) f.free.slots c.in-Some-front.ensures.front c.in-Some-front.ensures.below in
-    let len = sound.sizes.free_len in
-    let below : s < length f.slots.items = omega (arith, small, len) in
-    subst (λ (t : Table X). s < length t.slots) c.self.view_is below
+    claims.front_there f.slots.items f.holders f.free f.empty f.chains.place f.chains.slots f.chains.chains f.rack c.self.invariant c.self.view_is c.in-Some-front.front c.in-Some-front.ensures.front c.in-Some-front.ensures.below
 
 pub reclaim-requires-clause-listed : goal.reclaim-requires-clause-listed
 reclaim-requires-clause-listed g c =
@@ -40,18 +27,11 @@ reclaim-requires-clause-listed g c =
 pub reclaim-requires-clause-low : goal.reclaim-requires-clause-low
 reclaim-requires-clause-low g c =
     let f = c.self.inside in
-    let X : Type 0 = g.row.B.Denot in
-    let sound : IsSound f.slots.items f.holders f.free f.empty f.chains.place f.chains.slots f.chains.chains f.rack = c.self.invariant in
-    let s : ℕ = c.in-Some-front.front in
-    let small = first_below f.free.queue s (without s f.free.queue) f.free.slots c.in-Some-front.ensures.front c.in-Some-front.ensures.below in
-    let len = sound.sizes.free_len in
-    let below : s < length f.slots.items = omega (arith, small, len) in
-    let x : Slot X = c.index.result.now in
-    let was : slice_get c.args.self.now.slots s ≡ Some x = subst (λ (t : Table X). slice_get t.slots s ≡ Some x) c.self.view_is (slice_get-get_or f.slots.items s x below ∙ ap (λ (y : Slot X). Some y) (sym c.index.ensures)) in
+    let was = claims.front_slot f.slots.items f.holders f.free f.empty f.chains.place f.chains.slots f.chains.chains f.rack c.self.invariant c.self.view_is c.in-Some-front.front c.in-Some-front.ensures.front c.in-Some-front.ensures.below c.index.result.now c.index.ensures in
     λ n y e q. (
-    let both : Some y ≡ Some x = sym e ∙ (ap (slice_get c.args.self.now.slots) q ∙ was) in
-    let one : y ≡ x = cc in
-    let g = ap (λ (z : Slot X). z.generation) one in
+    let both : Some y ≡ Some c.index.result.now = sym e ∙ (ap (slice_get c.args.self.now.slots) q ∙ was) in
+    let one : y ≡ c.index.result.now = cc in
+    let g = ap (λ (z : Slot g.row.B.Denot). z.generation) one in
     let not_top = c.if-index.false in
     omega (arith, g, not_top)
     )
@@ -59,35 +39,18 @@ reclaim-requires-clause-low g c =
 pub returns-in-Some-clause-none : goal.returns-in-Some-clause-none
 returns-in-Some-clause-none g c =
     let f = c.self.inside in
-    let X : Type 0 = g.row.B.Denot in
-    let sound : IsSound f.slots.items f.holders f.free f.empty f.chains.place f.chains.slots f.chains.chains f.rack = c.self.invariant in
-    let s : ℕ = c.in-Some.slot in
-    let small = first_below f.empty.queue s (without s f.empty.queue) f.empty.slots c.in-Some.ensures.front c.in-Some.ensures.below in
-    let len = sound.sizes.empty_len in
-    let here : IsEmptyAt c.args.self.now.slots s = subst (λ (t : Table X). IsEmptyAt t.slots s) c.self.view_is (empty_at f.slots.items f.holders f.free f.empty f.chains.place f.chains.slots f.chains.chains f.rack sound s (omega (arith, small, len)) c.in-Some.ensures.listed) in
-    (λ z. absurd (let k : ⊥ = cc in k), λ n. absurd (not_all_filled c.args.self.now s here n))
+    let here = claims.empty_front f.slots.items f.holders f.free f.empty f.chains.place f.chains.slots f.chains.chains f.rack c.self.invariant c.self.view_is c.in-Some.slot c.in-Some.ensures.front c.in-Some.ensures.below c.in-Some.ensures.listed in
+    (λ z. absurd (let k : ⊥ = cc in k), λ n. absurd (claims.not_all_filled c.args.self.now c.in-Some.slot here n))
 
 pub returns-in-Some-clause-claimed : goal.returns-in-Some-clause-claimed
 returns-in-Some-clause-claimed g c =
     let f = c.self.inside in
-    let X : Type 0 = g.row.B.Denot in
-    let sound : IsSound f.slots.items f.holders f.free f.empty f.chains.place f.chains.slots f.chains.chains f.rack = c.self.invariant in
-    let s : ℕ = c.in-Some.slot in
-    let small = first_below f.empty.queue s (without s f.empty.queue) f.empty.slots c.in-Some.ensures.front c.in-Some.ensures.below in
-    let len = sound.sizes.empty_len in
-    let here : IsEmptyAt c.args.self.now.slots s = subst (λ (t : Table X). IsEmptyAt t.slots s) c.self.view_is (empty_at f.slots.items f.holders f.free f.empty f.chains.place f.chains.slots f.chains.chains f.rack sound s (omega (arith, small, len)) c.in-Some.ensures.listed) in
-    inl (here, refl)
+    inl (claims.empty_front f.slots.items f.holders f.free f.empty f.chains.place f.chains.slots f.chains.chains f.rack c.self.invariant c.self.view_is c.in-Some.slot c.in-Some.ensures.front c.in-Some.ensures.below c.in-Some.ensures.listed, refl)
 
 pub returns-in-Some-clause-empty : goal.returns-in-Some-clause-empty
 returns-in-Some-clause-empty g c =
     let f = c.self.inside in
-    let X : Type 0 = g.row.B.Denot in
-    let sound : IsSound f.slots.items f.holders f.free f.empty f.chains.place f.chains.slots f.chains.chains f.rack = c.self.invariant in
-    let s : ℕ = c.in-Some.slot in
-    let small = first_below f.empty.queue s (without s f.empty.queue) f.empty.slots c.in-Some.ensures.front c.in-Some.ensures.below in
-    let len = sound.sizes.empty_len in
-    let here : IsEmptyAt c.args.self.now.slots s = subst (λ (t : Table X). IsEmptyAt t.slots s) c.self.view_is (empty_at f.slots.items f.holders f.free f.empty f.chains.place f.chains.slots f.chains.chains f.rack sound s (omega (arith, small, len)) c.in-Some.ensures.listed) in
-    here
+    claims.empty_front f.slots.items f.holders f.free f.empty f.chains.place f.chains.slots f.chains.chains f.rack c.self.invariant c.self.view_is c.in-Some.slot c.in-Some.ensures.front c.in-Some.ensures.below c.in-Some.ensures.listed
 
 pub returns-in-Some-clause-grows : goal.returns-in-Some-clause-grows
 returns-in-Some-clause-grows g c =
@@ -97,10 +60,8 @@ returns-in-Some-clause-grows g c =
 pub returns-in_default-front-clause-none : goal.returns-in_default-front-clause-none
 returns-in_default-front-clause-none g c =
     let f = c.self.inside in
-    let X : Type 0 = g.row.B.Denot in
-    let sound : IsSound f.slots.items f.holders f.free f.empty f.chains.place f.chains.slots f.chains.chains f.rack = c.self.invariant in
-    let full : AreFilled c.args.self.now.slots = subst (λ (t : Table X). AreFilled t.slots) c.self.view_is (all_filled f.slots.items f.holders f.free f.empty f.chains.place f.chains.slots f.chains.chains f.rack sound (c.in_default.ensures.none.0 refl)) in
-    let empty : c.args.self.now.free.queue ≡ [] = subst (λ (t : Table X). t.free.queue ≡ []) c.self.view_is (c.in_default-front.ensures.none.0 refl) in
+    let full = claims.every_filled f.slots.items f.holders f.free f.empty f.chains.place f.chains.slots f.chains.chains f.rack c.self.invariant c.self.view_is (c.in_default.ensures.none.0 refl) in
+    let empty = subst (λ (t : Table g.row.B.Denot). t.free.queue ≡ []) c.self.view_is (c.in_default-front.ensures.none.0 refl) in
     (λ z. (full, inl empty), λ n. refl)
 
 pub returns-in_default-front-clause-grows : goal.returns-in_default-front-clause-grows
@@ -111,17 +72,10 @@ returns-in_default-front-clause-grows g c =
 pub returns-then-index-clause-none : goal.returns-then-index-clause-none
 returns-then-index-clause-none g c =
     let f = c.self.inside in
-    let X : Type 0 = g.row.B.Denot in
-    let sound : IsSound f.slots.items f.holders f.free f.empty f.chains.place f.chains.slots f.chains.chains f.rack = c.self.invariant in
-    let full : AreFilled c.args.self.now.slots = subst (λ (t : Table X). AreFilled t.slots) c.self.view_is (all_filled f.slots.items f.holders f.free f.empty f.chains.place f.chains.slots f.chains.chains f.rack sound (c.in_default.ensures.none.0 refl)) in
-    let s : ℕ = c.in-Some-front.front in
-    let small = first_below f.free.queue s (without s f.free.queue) f.free.slots c.in-Some-front.ensures.front c.in-Some-front.ensures.below in
-    let len = sound.sizes.free_len in
-    let below : s < length f.slots.items = omega (arith, small, len) in
-    let x : Slot X = c.index.result.now in
-    let was : slice_get c.args.self.now.slots s ≡ Some x = subst (λ (t : Table X). slice_get t.slots s ≡ Some x) c.self.view_is (slice_get-get_or f.slots.items s x below ∙ ap (λ (y : Slot X). Some y) (sym c.index.ensures)) in
-    let queue : c.args.self.now.free.queue ≡ s ∷ without s c.args.self.now.free.queue = subst (λ (t : Table X). t.free.queue ≡ s ∷ without s t.free.queue) c.self.view_is c.in-Some-front.ensures.front in
-    (λ z. no_slot_at c.args.self.now s x full queue was c.if-index.true, λ n. refl)
+    let full = claims.every_filled f.slots.items f.holders f.free f.empty f.chains.place f.chains.slots f.chains.chains f.rack c.self.invariant c.self.view_is (c.in_default.ensures.none.0 refl) in
+    let queue = claims.front_is f.slots.items f.holders f.free f.empty f.chains.place f.chains.slots f.chains.chains f.rack c.self.invariant c.self.view_is c.in-Some-front.front c.in-Some-front.ensures.front c.in-Some-front.ensures.below in
+    let was = claims.front_slot f.slots.items f.holders f.free f.empty f.chains.place f.chains.slots f.chains.chains f.rack c.self.invariant c.self.view_is c.in-Some-front.front c.in-Some-front.ensures.front c.in-Some-front.ensures.below c.index.result.now c.index.ensures in
+    (λ z. claims.no_slot_at c.args.self.now c.in-Some-front.front c.index.result.now full queue was c.if-index.true, λ n. refl)
 
 pub returns-then-index-clause-grows : goal.returns-then-index-clause-grows
 returns-then-index-clause-grows g c =
@@ -131,29 +85,14 @@ returns-then-index-clause-grows g c =
 pub returns-clause-none : goal.returns-clause-none
 returns-clause-none g c =
     let f = c.self.inside in
-    let X : Type 0 = g.row.B.Denot in
-    let sound : IsSound f.slots.items f.holders f.free f.empty f.chains.place f.chains.slots f.chains.chains f.rack = c.self.invariant in
-    let s : ℕ = c.in-Some-front.front in
-    let small = first_below f.free.queue s (without s f.free.queue) f.free.slots c.in-Some-front.ensures.front c.in-Some-front.ensures.below in
-    let len = sound.sizes.free_len in
-    let below : s < length f.slots.items = omega (arith, small, len) in
-    let x : Slot X = c.index.result.now in
-    let was : slice_get c.args.self.now.slots s ≡ Some x = subst (λ (t : Table X). slice_get t.slots s ≡ Some x) c.self.view_is (slice_get-get_or f.slots.items s x below ∙ ap (λ (y : Slot X). Some y) (sym c.index.ensures)) in
-    let queue : c.args.self.now.free.queue ≡ s ∷ without s c.args.self.now.free.queue = subst (λ (t : Table X). t.free.queue ≡ s ∷ without s t.free.queue) c.self.view_is c.in-Some-front.ensures.front in
-    (λ z. absurd (let k : ⊥ = cc in k), λ n. absurd (front_can_rise c.args.self.now s x queue was c.if-index.false n))
+    let queue = claims.front_is f.slots.items f.holders f.free f.empty f.chains.place f.chains.slots f.chains.chains f.rack c.self.invariant c.self.view_is c.in-Some-front.front c.in-Some-front.ensures.front c.in-Some-front.ensures.below in
+    let was = claims.front_slot f.slots.items f.holders f.free f.empty f.chains.place f.chains.slots f.chains.chains f.rack c.self.invariant c.self.view_is c.in-Some-front.front c.in-Some-front.ensures.front c.in-Some-front.ensures.below c.index.result.now c.index.ensures in
+    (λ z. absurd (let k : ⊥ = cc in k), λ n. absurd (claims.front_can_rise c.args.self.now c.in-Some-front.front c.index.result.now queue was c.if-index.false n))
 
 pub returns-clause-claimed : goal.returns-clause-claimed
 returns-clause-claimed g c =
     let f = c.self.inside in
-    let X : Type 0 = g.row.B.Denot in
-    let sound : IsSound f.slots.items f.holders f.free f.empty f.chains.place f.chains.slots f.chains.chains f.rack = c.self.invariant in
-    let full : AreFilled c.args.self.now.slots = subst (λ (t : Table X). AreFilled t.slots) c.self.view_is (all_filled f.slots.items f.holders f.free f.empty f.chains.place f.chains.slots f.chains.chains f.rack sound (c.in_default.ensures.none.0 refl)) in
-    let s : ℕ = c.in-Some-front.front in
-    let small = first_below f.free.queue s (without s f.free.queue) f.free.slots c.in-Some-front.ensures.front c.in-Some-front.ensures.below in
-    let len = sound.sizes.free_len in
-    let below : s < length f.slots.items = omega (arith, small, len) in
-    let queue : c.args.self.now.free.queue ≡ s ∷ without s c.args.self.now.free.queue = subst (λ (t : Table X). t.free.queue ≡ s ∷ without s t.free.queue) c.self.view_is c.in-Some-front.ensures.front in
-    inr (full, queue, c.reclaim.ensures.emptied)
+    inr (claims.every_filled f.slots.items f.holders f.free f.empty f.chains.place f.chains.slots f.chains.chains f.rack c.self.invariant c.self.view_is (c.in_default.ensures.none.0 refl), claims.front_is f.slots.items f.holders f.free f.empty f.chains.place f.chains.slots f.chains.chains f.rack c.self.invariant c.self.view_is c.in-Some-front.front c.in-Some-front.ensures.front c.in-Some-front.ensures.below, c.reclaim.ensures.emptied)
 
 pub returns-clause-empty : goal.returns-clause-empty
 returns-clause-empty g c =

@@ -1,4 +1,4 @@
-use Rattle.std.proofs.Common.{◌≡◌, ◌+◌, ◌∙◌, ap, arith, length, length-append, [], ◌∷◌}
+use Rattle.std.proofs.Common.{◌∙◌, ap, arith, length, length-append, [], ◌∷◌}
 use Rattle.vnode_rec.specs.Holders.{row_in}
 use Rattle.vnode_rec.proofs.Held.{left_again}
 use Rattle.vnode_rec.proofs.table.VnodeTableOf.empty_row.Goals as goal

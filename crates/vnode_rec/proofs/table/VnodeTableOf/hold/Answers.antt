@@ -1,9 +1,6 @@
-use Rattle.std.proofs.Common.{◌≡◌, ◌<◌, ◌∙◌, sym, ap, arith, length, subst, refl, IsSome}
-use Rattle.op_vector.specs.declared.data.Vid.{Vid}
+use Rattle.std.proofs.Common.{◌≡◌, ◌<◌, sym, arith, length, subst, refl, IsSome}
 use Rattle.op_vector.specs.declared.data.VKind.{VKind}
-use Rattle.free_list.specs.Queue.{Queue}
-use Rattle.vnode_rec.specs.Holders.{Held, row_in}
-use Rattle.vnode_rec.specs.Sound.{IsSound}
+use Rattle.vnode_rec.specs.Holders.{row_in}
 use Rattle.vnode_rec.specs.Vnodes.{Table, IsCurrent, IsMatched, slot_in}
 use Rattle.vnode_rec.specs.Effects.{took}
 use Rattle.vnode_rec.proofs.Slots.{current_below}

@@ -1,4 +1,4 @@
-use Rattle.std.proofs.Common.{ℕ, ◌≡◌, ◌<◌, ◌≤◌, ◌*◌, ◌^◌, ◌∙◌, sym, ap, arith, subst, length}
+use Rattle.std.proofs.Common.{◌≡◌, ◌≤◌, ◌∙◌, sym, ap, arith, length}
 use Rattle.free_list.specs.Queue.{Queue}
 use Rattle.op_vector.specs.Rack.{boxes_of}
 use Rattle.vnode_rec.proofs.Fresh.{by_kinds, fresh_sound, nothing_matched}

@@ -1,5 +1,0 @@
-use Rattle.model_laws.proofs.MemLaws.{mem_tells}
-use Rattle.model_laws.proofs.folds.edits_of_memory_mounts_tell.Goals as goal
-
-pub returns : goal.returns
-returns c = mem_tells

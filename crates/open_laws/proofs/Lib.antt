@@ -1,0 +1,17 @@
+pub mod SameLaws
+pub mod FreedLaws
+pub mod CutLaws
+pub mod StandLaws
+pub mod GrowLaws
+pub mod HistoryLaws
+pub mod StackLaws
+pub mod DoomRows
+pub mod DoomLaws
+pub mod OpenLaws
+pub mod ListLaws
+pub mod KeepLaws
+pub mod ReadLaws
+pub mod KeptNodes
+pub mod OpenFiles
+pub mod JoinLaws
+pub mod DeepLaws
