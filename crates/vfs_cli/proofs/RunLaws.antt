@@ -1,5 +1,7 @@
 -- A script that has a text can be run, and a job that is done has run it.
 use Rattle.std.proofs.Common.{◌≡◌, ℕ, List, [], ◌∷◌, ◌++◌, ap, sym, ◌∙◌, subst}
+use Rattle.std.specs.Prelude.{Option, Result, Ok, Err, IfOk}
+use Rattle.std.specs.declared.alloc.AllocError.{AllocError}
 use Rattle.std.specs.Option.{option_to_list}
 use Rattle.std.specs.List.{AllByRecursion}
 use Rattle.std.specs.Cmp.{nat_cmp_total}
@@ -12,15 +14,22 @@ use Rattle.vfs_tree.specs.declared.world.World.{World}
 use Rattle.call_model.specs.Legal.{Pending, IsLegal, replay, calls_of, calls_in}
 use Rattle.call_model.specs.declared.call.Call.{Call}
 use Rattle.call_model.specs.declared.call.Line.{Line}
+use Rattle.call_model.specs.declared.entry.Entry.{Entry}
 use Rattle.script_text.specs.Fits.{FitsLine}
 use Rattle.script_text.specs.declared.script.Script.{Script}
-use Rattle.vfs_core.specs.Kernel.{Kernel}
+use Rattle.vfs_core.specs.Kernel.{Kernel, world_of}
 use Rattle.vfs_core.specs.Work.{Work}
 use Rattle.vfs_core.specs.Queues.{queue_at}
 use Rattle.vfs_core.specs.Turning.{FitsJob, Runs, IsDone, calls_with, HasLeft, lines_of}
-use Rattle.script_text.specs.Script.{HasText}
+use Rattle.script_text.specs.Generator.{gen_lines}
+use Rattle.script_text.specs.Script.{HasText, default_limits}
 use Rattle.trace_text.specs.Output.{output_text}
-use Rattle.vfs_cli.specs.Output.{IsAhead, IsFor, HasRun, IsInTurn, TakesTurns, Outputs, run_text}
+use Rattle.trace_text.specs.Summary.{summary_text}
+use Rattle.vfs_cli.proofs.EndLaws.{front_none}
+use Rattle.vfs_cli.specs.Output.{IsAhead, IsFor, HasRun, IsHistoryOf, IsInTurn, TakesTurns, Outputs, Sums, generated, run_text}
+use Rattle.vfs_cli.specs.Outcome.{Writing, Written, WroteOutput}
+use Rattle.vfs_cli.specs.declared.serial.Ending.{Ending}
+use Rattle.vfs_cli.specs.declared.serial.Ending.TheVariants as ending
 use Rattle.vfs_cli.specs.declared.words.Turns.{Turns}
 use Rattle.vfs_cli.specs.declared.words.Turns.TheVariants.{Scattered, InOrder, Together}
 
@@ -72,16 +81,55 @@ has_run turns script start end for runs done takes =
     let run = has_run_rest script start end (record { limits = for.limits; calls = for.calls }) runs done in
     record { limits = run.limits; idle = run.idle; calls = run.calls; in_turn = in_turn turns script start end for takes }
 
+-- a kernel that has run the script has a history of it
+is_history : (turns : Turns) (script : Script) (kern : Kernel) → IsLegal kern.pending (start_world kern.limits) kern.history → HasRun turns script kern → IsHistoryOf script kern.history
+is_history turns script kern legal run = record {
+  legal = subst (λ (w : World). IsLegal empty w kern.history) (ap start_world run.limits) (subst (λ (p : Pending). IsLegal p (start_world kern.limits) kern.history) run.idle legal);
+  calls = run.calls;
+}
+
 -- the output of a kernel that has run the script is that of a history of it
-pub outputs_run : (turns : Turns) (script : Script) (kern : Kernel) → IsLegal kern.pending (start_world kern.limits) kern.history → HasRun turns script kern → Outputs turns script (run_text kern)
-outputs_run turns script kern legal run =
-    let start : start_world kern.limits ≡ start_world script.limits = ap start_world run.limits in
+outputs_run : (turns : Turns) (script : Script) (kern : Kernel) → IsLegal kern.pending (start_world kern.limits) kern.history → HasRun turns script kern → Outputs turns script (run_text kern)
+outputs_run turns script kern legal run = record {
+  history = kern.history;
+  runs = is_history turns script kern legal run;
+  in_turn = run.in_turn;
+  output = ap (λ (l : Limits). output_text kern.history (replay (start_world l) kern.history)) run.limits;
+}
+
+-- the output of a kernel that has run the script was written, or a front of it; its text is made of its history and of
+-- the world that this leaves
+pub wrote_output : (turns : Turns) (script : Script) (kern : Kernel) (w : Writing) (end : Ending) (entries : List Entry) (world : World) → IsLegal kern.pending (start_world kern.limits) kern.history
+    → entries ≡ kern.history → world ≡ world_of kern → Written w (output_text entries world) end → HasRun turns script kern → WroteOutput turns script w end
+wrote_output turns script kern w end entries world legal its left wrote run = record {
+  text = run_text kern;
+  outputs = outputs_run turns script kern legal run;
+  written = subst (λ (v : World). Written w (output_text kern.history v) end) left (subst (λ (es : List Entry). Written w (output_text es world) end) its wrote);
+}
+
+-- nothing was, where memory was wanting for the world
+pub wrote_none : (turns : Turns) (script : Script) (kern : Kernel) (written : Option (List ℕ)) (faults : ℕ) → IsLegal kern.pending (start_world kern.limits) kern.history → HasRun turns script kern
+    → WroteOutput turns script (record { written = written; written' = written; faults = faults; faults' = faults }) ending.NoMemory
+wrote_none turns script kern written faults legal run = record {
+  text = run_text kern;
+  outputs = outputs_run turns script kern legal run;
+  written = front_none written (run_text kern);
+}
+
+-- the summary of a kernel that has run the script is that of a history of it
+pub sums_run : (turns : Turns) (script : Script) (kern : Kernel) (entries : List Entry) (world : World) (made : Result (List ℕ) AllocError) → IsLegal kern.pending (start_world kern.limits) kern.history
+    → entries ≡ kern.history → world ≡ world_of kern → IfOk made (λ text. text ≡ summary_text entries world) → HasRun turns script kern → IfOk made (Sums script)
+sums_run turns script kern entries world (Ok text) legal its left sums run =
+    let here : world ≡ replay (start_world script.limits) kern.history = left ∙ ap (λ (l : Limits). replay (start_world l) kern.history) run.limits in
     record {
       history = kern.history;
-      runs = record {
-        legal = subst (λ (w : World). IsLegal empty w kern.history) start (subst (λ (p : Pending). IsLegal p (start_world kern.limits) kern.history) run.idle legal);
-        calls = run.calls;
-      };
-      in_turn = run.in_turn;
-      output = ap (λ (w : World). output_text kern.history (replay w kern.history)) start;
+      runs = is_history turns script kern legal run;
+      summary = sums ∙ ap (λ (es : List Entry). summary_text es world) its ∙ ap (λ (v : World). summary_text kern.history v) here;
     }
+sums_run turns script kern entries world (Err error) legal its left sums run = tt
+
+-- the script that the generator makes
+pub generated_is : (seed calls : ℕ) (script : Script) → script.lines ≡ gen_lines seed calls → script.limits ≡ default_limits → script ≡ generated seed calls
+generated_is seed calls script lines limits =
+    let same : script ≡ record { limits = script.limits; lines = gen_lines seed calls } = ap (λ (ls : List Line). record { limits = script.limits; lines = ls }) lines in
+    same ∙ ap (λ (l : Limits). record { limits = l; lines = gen_lines seed calls }) limits

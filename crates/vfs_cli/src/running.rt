@@ -2,16 +2,18 @@
 ghost use Rattle.std.specs.Prelude.{◌≡◌, ◌≤◌, ℕ, IfOk, OnOk};
 ghost use Rattle.script_text.specs.Script.{HasText, script_text};
 ghost use Rattle.script_text.specs.declared.script.Script.{Script};
+ghost use Rattle.trace_text.specs.Summary.{summary_text};
 ghost use Rattle.vfs_core.specs.Turning.{Runs, IsDone};
 ghost use Rattle.vfs_cli.specs.Output.{IsFor, HasRun, TakesTurns, Sums, generated};
 ghost use Rattle.vfs_cli.specs.declared.words.Turns.{Turns};
 
 use crate::words::Turns;
+use call_model::History;
 use script_text::{Script, gen_script, print_script};
 use std::alloc::{AllocError, Global};
 use trace_text::print_summary;
 use vfs_core::{Job, Kern};
-use vfs_tree::Bytes;
+use vfs_tree::{Bytes, World};
 
 /// Runs all calls of a job. The only fault is want of memory.
 pub fn run_job(alloc: Global, job: &mut Job, turns: Turns) -> Result<(), AllocError>
@@ -45,6 +47,26 @@ pub fn run_calls(alloc: Global, script: Script, turns: Turns) -> Result<Kern, Al
     Ok(job.into_kern())
 }
 
+/// The summary of a history and of a world. The only fault is want of memory.
+fn summary(alloc: Global, history: &History, world: &World) -> Result<Bytes, AllocError>
+    ensures { IfOk result (λ text. text ≡ summary_text history.now.entries world.now) }
+{
+    let mut summary = Bytes::new(alloc);
+    print_summary(alloc, history, world, &mut summary)?;
+    Ok(summary)
+}
+
+/// The summary of a run, by the kernel after all calls. The only fault is want of memory.
+fn summary_of(alloc: Global, kern: &Kern) -> Result<Bytes, AllocError>
+    ensures { (turns : Turns) (script : Script) → HasRun turns script kern.now → IfOk result (Sums script) }
+{
+    let history = kern.history();
+    match kern.world(alloc) {
+        Ok(world) => summary(alloc, history, &world),
+        Err(error) => Err(error),
+    }
+}
+
 /// The summary of a run of the script that the generator makes of the seed, with its turns by the same seed. The only
 /// fault is want of memory.
 pub fn sum_up(alloc: Global, seed: u64, calls: u32) -> Result<Bytes, AllocError>
@@ -54,10 +76,7 @@ pub fn sum_up(alloc: Global, seed: u64, calls: u32) -> Result<Bytes, AllocError>
 {
     let script = gen_script(alloc, seed, calls)?;
     let kern = run_calls(alloc, script, Turns::Scattered { seed })?;
-    let world = kern.world(alloc)?;
-    let mut summary = Bytes::new(alloc);
-    print_summary(alloc, kern.history(), &world, &mut summary)?;
-    Ok(summary)
+    summary_of(alloc, &kern)
 }
 
 /// The text of the script that the generator makes of the seed. The only fault is want of memory.

@@ -1,17 +1,12 @@
-ghost use Rattle.std.specs.Prelude.{◌≡◌, ◌≢◌, ◌⊎◌, ◌↔◌, ◌<◌, ◌≤◌, ℕ, List, length, true, false, map, string_bytes, [], Some, None, IfOk, IfErr, OnOk};
-ghost use Rattle.std.specs.Io.KnownBytes.{Consumes, Appends, IsAtEnd};
-ghost use Rattle.vfs_flow.specs.Faults.{Rose};
-ghost use Rattle.vfs_flow.specs.Whole.{WritesFront};
-ghost use Rattle.script_text.specs.BadLine.{IsBadLine};
-ghost use Rattle.script_text.specs.Script.{HasText, IsTextOf, script_text};
+ghost use Rattle.std.specs.Prelude.{◌≡◌, ◌≢◌, ◌⊎◌, ◌<◌, ℕ, List, length, false, map, string_bytes, Some, IfOk};
+ghost use Rattle.script_text.specs.Script.{HasText, IsTextOf};
 ghost use Rattle.script_text.specs.declared.script.Script.{Script};
-ghost use Rattle.vfs_cli.specs.declared.serial.Ending.{Ending};
 ghost use Rattle.vfs_cli.specs.declared.words.Command.{Command};
-ghost use Rattle.vfs_cli.specs.declared.words.Command.TheVariants.{Run, Gen, Show};
+ghost use Rattle.vfs_cli.specs.declared.words.Command.TheVariants.{Run};
 ghost use Rattle.vfs_cli.specs.declared.words.Turns.{Turns};
 ghost use Rattle.vfs_cli.specs.Words.{serial_command_of, reads};
-ghost use Rattle.vfs_cli.specs.Output.{Ran, Sums, generated};
-ghost use Rattle.vfs_cli.specs.Outcome.{Outcome, Written, Told, WroteFront, bad_text, status_of};
+ghost use Rattle.vfs_cli.specs.Outcome.{Outcome, PutMade, TakesScript, Told, Written, bad_text, effects, reading, status_of, writing};
+ghost use Rattle.vfs_cli.specs.Serving.{Serves};
 
 use crate::running::{run_calls, show, sum_up};
 use crate::words::{Command, Turns, serial_command_of};
@@ -49,7 +44,7 @@ pub enum Ending {
 
 /// Writes a text.
 pub fn put<K: Sink>(sink: &mut K, text: &[u8]) -> Ending
-    ensures { Written (K.written sink.old) (K.written sink.new) (K.faults sink.old) (K.faults sink.new) text.now result }
+    ensures { Written (writing K.written K.faults sink.old sink.new) text.now result }
 {
     match write_all(sink, text) {
         WholeWrite::Done => Ending::Done,
@@ -70,7 +65,7 @@ fn text_of(alloc: Global, line: u32) -> Result<Vec<u8>, AllocError>
 
 /// Writes which line is bad.
 fn tell_bad_line<K: Sink>(alloc: Global, sink: &mut K, line: u32) -> Ending
-    ensures { Told (K.written sink.old) (K.written sink.new) (K.faults sink.old) (K.faults sink.new) line result }
+    ensures { Told (writing K.written K.faults sink.old sink.new) line result }
 {
     let text = match text_of(alloc, line) {
         Ok(text) => text,
@@ -84,24 +79,12 @@ fn tell_bad_line<K: Sink>(alloc: Global, sink: &mut K, line: u32) -> Ending
 }
 
 /// Reads a script. Where the bytes are none, which line is bad is written; the ending is then that of the run.
-#[tactic(auto, using(crate::proofs::EndLaws::told_bad))]
 pub fn take_script<S: Source, K: Sink>(
     alloc: Global,
     source: &mut S,
     sink: &mut K,
 ) -> Result<Script, Ending>
-    ensures script { IfOk result (λ script. HasText script × ((bytes : List ℕ) × IsTextOf script bytes × (length bytes < 1048577) × Consumes (S.left source.old) (S.left source.new) bytes × IsAtEnd (S.left source.new))) }
-    ensures silent { OnOk result ((K.written sink.new ≡ K.written sink.old) × (K.faults sink.new ≡ K.faults sink.old)) }
-    ensures refused { IfErr result (λ ending. (turns : Turns) → Outcome (Some (Run turns)) (record {
-      left = S.left source.old;
-      left' = S.left source.new;
-      written = K.written sink.old;
-      written' = K.written sink.new;
-      source = S.faults source.old;
-      source' = S.faults source.new;
-      sink = K.faults sink.old;
-      sink' = K.faults sink.new;
-    }) ending) }
+    ensures { TakesScript (effects (reading S.left S.faults source.old source.new) (writing K.written K.faults sink.old sink.new)) result }
 {
     let bytes = match read_to_end(alloc, source, READ_LIMIT) {
         WholeRead::All { bytes } => bytes,
@@ -123,16 +106,7 @@ fn run_script<S: Source, K: Sink>(
     source: &mut S,
     sink: &mut K,
 ) -> Ending
-    ensures { Outcome (Some (Run turns)) (record {
-      left = S.left source.old;
-      left' = S.left source.new;
-      written = K.written sink.old;
-      written' = K.written sink.new;
-      source = S.faults source.old;
-      source' = S.faults source.new;
-      sink = K.faults sink.old;
-      sink' = K.faults sink.new;
-    }) result }
+    ensures { Outcome (Some (Run turns)) (effects (reading S.left S.faults source.old source.new) (writing K.written K.faults sink.old sink.new)) result }
 {
     let script = match take_script(alloc, source, sink) {
         Ok(script) => script,
@@ -144,37 +118,31 @@ fn run_script<S: Source, K: Sink>(
     }
 }
 
+/// Writes a text that was made, unless memory was wanting for it.
+fn put_made<K: Sink>(sink: &mut K, text: Result<Bytes, AllocError>) -> Ending
+    ensures { PutMade (writing K.written K.faults sink.old sink.new) text result }
+{
+    match text {
+        Ok(text) => put(sink, text.as_slice()),
+        Err(_) => Ending::NoMemory,
+    }
+}
+
 /// Does what the words say, on one thread.
-#[tactic(auto, using(crate::proofs::EndLaws::written_all))]
 fn serve<S: Source, K: Sink>(
     alloc: Global,
     words: &[String],
     source: &mut S,
     sink: &mut K,
 ) -> Ending
-    ensures { Outcome (serial_command_of (map string_bytes words.now)) (record {
-      left = S.left source.old;
-      left' = S.left source.new;
-      written = K.written sink.old;
-      written' = K.written sink.new;
-      source = S.faults source.old;
-      source' = S.faults source.new;
-      sink = K.faults sink.old;
-      sink' = K.faults sink.new;
-    }) result }
+    ensures { Outcome (serial_command_of (map string_bytes words.now))
+        (effects (reading S.left S.faults source.old source.new) (writing K.written K.faults sink.old sink.new)) result }
 {
-    let command = match serial_command_of(words) {
-        Some(command) => command,
-        None => return Ending::Usage,
-    };
-    let text = match command {
-        Command::Run { turns } => return run_script(alloc, turns, source, sink),
-        Command::Gen { seed, calls } => sum_up(alloc, seed, calls),
-        Command::Show { seed, calls } => show(alloc, seed, calls),
-    };
-    match text {
-        Ok(text) => put(sink, text.as_slice()),
-        Err(_) => Ending::NoMemory,
+    match serial_command_of(words) {
+        Some(Command::Run { turns }) => run_script(alloc, turns, source, sink),
+        Some(Command::Gen { seed, calls }) => put_made(sink, sum_up(alloc, seed, calls)),
+        Some(Command::Show { seed, calls }) => put_made(sink, show(alloc, seed, calls)),
+        None => Ending::Usage,
     }
 }
 
@@ -215,71 +183,9 @@ pub fn serial_main<S: Source, K: Sink>(
     source: &mut S,
     sink: &mut K,
 ) -> Status
-    // Each status has its cause, and what was read and written with it.
-    ensures outcome { (ending : Ending) × (result ≡ status_of ending) × Outcome (serial_command_of (map string_bytes words.now)) (record {
-      left = S.left source.old;
-      left' = S.left source.new;
-      written = K.written sink.old;
-      written' = K.written sink.new;
-      source = S.faults source.old;
-      source' = S.faults source.new;
-      sink = K.faults sink.old;
-      sink' = K.faults sink.new;
-    }) ending }
-    // Status 0 of a run: the bytes, to the end of the source, are the text of a script; what was written is the output of a
-    // legal history, in which each caller's calls are those of the script, and of the world that the history leaves. Where
-    // the lines were run in their order, the call entries of the history are the lines.
-    ensures headline { result.code ≡ 0 → (turns : Turns) → serial_command_of (map string_bytes words.now) ≡ Some (Run turns) → (bytes text : List ℕ)
-        × Consumes (S.left source.old) (S.left source.new) bytes × IsAtEnd (S.left source.new)
-        × Ran turns bytes text
-        × Appends (K.written sink.old) (K.written sink.new) text }
-    ensures summary { result.code ≡ 0 → (seed calls : ℕ) → serial_command_of (map string_bytes words.now) ≡ Some (Gen seed calls) → (text : List ℕ)
-        × Consumes (S.left source.old) (S.left source.new) []
-        × Sums (generated seed calls) text
-        × Appends (K.written sink.old) (K.written sink.new) text }
-    ensures shown { result.code ≡ 0 → (seed calls : ℕ) → serial_command_of (map string_bytes words.now) ≡ Some (Show seed calls)
-        → Consumes (S.left source.old) (S.left source.new) []
-        × Appends (K.written sink.old) (K.written sink.new) (script_text (generated seed calls)) }
-    ensures usage { (result.code ≡ 64) ↔ (serial_command_of (map string_bytes words.now) ≡ None) }
-    ensures too_long { result.code ≡ 27 → (bytes : List ℕ)
-        × (length bytes ≡ 1048577) × Consumes (S.left source.old) (S.left source.new) bytes }
-    ensures not_too_long { result.code ≢ 27 → (bytes : List ℕ)
-        × (length bytes < 1048577) × Consumes (S.left source.old) (S.left source.new) bytes }
-    ensures bad_script { result.code ≡ 65 → (bytes : List ℕ)
-        × Consumes (S.left source.old) (S.left source.new) bytes × IsAtEnd (S.left source.new)
-        × IsBadLine bytes result.line
-        × Appends (K.written sink.old) (K.written sink.new) (bad_text result.line) }
-    ensures no_line { result.code ≢ 65 → result.line ≡ 0 }
-    ensures read_fault { result.code ≡ 74 → Rose (S.faults source.old) (S.faults source.new) }
-    ensures write_fault { result.code ≡ 75 → Rose (K.faults sink.old) (K.faults sink.new) }
-    ensures front { result.code ≡ 75 → (command : Command) × (serial_command_of (map string_bytes words.now) ≡ Some command) × WroteFront command (record {
-      left = S.left source.old;
-      left' = S.left source.new;
-      written = K.written sink.old;
-      written' = K.written sink.new;
-      source = S.faults source.old;
-      source' = S.faults source.new;
-      sink = K.faults sink.old;
-      sink' = K.faults sink.new;
-    }) }
-    // A script is run, unless memory runs out, where the source and the sink have no fault.
-    ensures complete { (turns : Turns) (script : Script) (bytes : List ℕ) → HasText script → IsTextOf script bytes → length bytes < 1048577
-        → serial_command_of (map string_bytes words.now) ≡ Some (Run turns)
-        → S.left source.old ≡ Some bytes
-        → (Rose (S.faults source.old) (S.faults source.new) → ⊥)
-        → (Rose (K.faults sink.old) (K.faults sink.new) → ⊥)
-        → (result.code ≡ 0) ⊎ (result.code ≡ 12) }
-    // And so is one that is made.
-    ensures complete_made { (command : Command) → serial_command_of (map string_bytes words.now) ≡ Some command → reads command ≡ false
-        → (Rose (K.faults sink.old) (K.faults sink.new) → ⊥)
-        → (result.code ≡ 0) ⊎ (result.code ≡ 12) }
-    // And the bad line is told of what is no script.
-    ensures complete_bad { (turns : Turns) (bytes : List ℕ) → ((script : Script) → HasText script → IsTextOf script bytes → ⊥) → length bytes < 1048577
-        → serial_command_of (map string_bytes words.now) ≡ Some (Run turns)
-        → S.left source.old ≡ Some bytes
-        → (Rose (S.faults source.old) (S.faults source.new) → ⊥)
-        → (Rose (K.faults sink.old) (K.faults sink.new) → ⊥)
-        → (result.code ≡ 65) ⊎ (result.code ≡ 12) }
+    // The whole contract, one fact a field: the cause of each status, what was read and written with it, and completeness.
+    ensures { Serves (serial_command_of (map string_bytes words.now))
+        (effects (reading S.left S.faults source.old source.new) (writing K.written K.faults sink.old sink.new)) result }
 {
     status_of(serve(alloc, words, source, sink))
 }
