@@ -10,8 +10,6 @@ mod opening;
 mod reading;
 mod room;
 mod seek;
-#[cfg(test)]
-mod tests;
 mod writing;
 
 pub use descriptors::{close, descriptor, fchdir};

@@ -10,8 +10,6 @@ mod dooms;
 mod effect;
 mod entries;
 mod shadow;
-#[cfg(test)]
-mod tests;
 mod turn;
 mod upper;
 

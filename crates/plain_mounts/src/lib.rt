@@ -8,8 +8,6 @@
 mod first;
 mod mount;
 mod revoking;
-#[cfg(test)]
-mod tests;
 mod unmount;
 
 pub use first::{first_in, first_open};

@@ -78,13 +78,17 @@ call_at key.Lseek words = three number_at whence_at offset_at (λ d h i. call.Ls
 call_at key.Truncate words = two bytes_at number_at (λ p n. call.Truncate p n) words
 call_at key.Ftruncate words = two number_at number_at (λ d n. call.Ftruncate d n) words
 
--- the line of these words
-unfoldable pub words_at : List (List ℕ) → Option Line
-words_at (caller ∷ word ∷ words) = do
+-- the line of this caller's word, this first word of a call and the words that the call takes
+abbrev pub line_from : List ℕ → List ℕ → List (List ℕ) → Option Line
+line_from caller word words = do
   n ← number_at caller
   k ← keyword_at word
   c ← call_at k words
   Some (record { caller = n; call = c })
+
+-- the line of these words
+unfoldable pub words_at : List (List ℕ) → Option Line
+words_at (caller ∷ word ∷ words) = line_from caller word words
 words_at words = None
 
 -- a caller's number, from 1 to the number of callers

@@ -36,7 +36,7 @@ impl<T: Drop> From<AllocFailed<T>> for ScriptFault {
 }
 
 /// Why bytes became no line.
-#[derive(Clone, Copy, Debug, PartialEq, Eq)]
+#[derive(Clone, Copy)]
 pub enum LineFault {
     /// The bytes are no line.
     Bad,

@@ -6,7 +6,7 @@ use crate::fault::LineFault;
 use call_model::Call;
 
 /// The first word of a call that takes one path.
-#[derive(Clone, Copy, Debug, PartialEq, Eq)]
+#[derive(Clone, Copy)]
 pub enum PathKeyword {
     Mkdir,
     Rmdir,
@@ -24,7 +24,7 @@ pub enum PathKeyword {
 }
 
 /// The first word of a call that takes a descriptor alone.
-#[derive(Clone, Copy, Debug, PartialEq, Eq)]
+#[derive(Clone, Copy)]
 pub enum DescriptorKeyword {
     Close,
     Fstat,
@@ -33,7 +33,7 @@ pub enum DescriptorKeyword {
 }
 
 /// The first word of a call that takes two paths, or a target and a path.
-#[derive(Clone, Copy, Debug, PartialEq, Eq)]
+#[derive(Clone, Copy)]
 pub enum PathsKeyword {
     Rename,
     Link,
@@ -43,7 +43,7 @@ pub enum PathsKeyword {
 }
 
 /// The first word of a call, by what the call takes.
-#[derive(Clone, Copy, Debug, PartialEq, Eq)]
+#[derive(Clone, Copy)]
 pub enum Keyword {
     Path(PathKeyword),
     Descriptor(DescriptorKeyword),

@@ -30,6 +30,3 @@ pub use reading::read_script;
 pub use script::{Lines, Script};
 pub use script_printing::print_script;
 pub use word::put_word;
-
-#[cfg(test)]
-mod tests;

@@ -2,7 +2,7 @@ ghost use Rattle.std.specs.Prelude.{◌≡◌, map, IfOk};
 ghost use Rattle.std.specs.Str.{bytes_eq};
 ghost use Rattle.script_text.specs.Line.{line_text};
 ghost use Rattle.script_text.specs.Reading.{Gives};
-ghost use Rattle.script_text.specs.ReadCall.{words_at, is_caller, line_at};
+ghost use Rattle.script_text.specs.ReadCall.{line_from, words_at, is_caller, line_at};
 
 use crate::call::call_of;
 use crate::cut::parts;
@@ -13,17 +13,22 @@ use crate::printing::put_line;
 use call_model::Line;
 use std::alloc::{AllocError, Global};
 
+/// The line of the words of its caller, its first word and what its call takes.
+fn line_from(alloc: Global, caller: &[u8], word: &[u8], words: &[&[u8]]) -> Result<Line, LineFault>
+    ensures { Gives (λ x. x) result (line_from caller.now word.now (map (λ w. w.now) words.now)) }
+{
+    let caller = number_of(caller)?;
+    let keyword = keyword_of(word)?;
+    let call = call_of(alloc, keyword, words)?;
+    Ok(Line { caller, call })
+}
+
 #[tactic(auto, unfolding(crate::specs::ReadCall::words_at))]
 fn line_of_words(alloc: Global, words: &[&[u8]]) -> Result<Line, LineFault>
     ensures { Gives (λ x. x) result (words_at (map (λ w. w.now) words.now)) }
 {
     match words {
-        [caller, word, words @ ..] => {
-            let caller = number_of(caller)?;
-            let keyword = keyword_of(word)?;
-            let call = call_of(alloc, keyword, words)?;
-            Ok(Line { caller, call })
-        }
+        [caller, word, words @ ..] => line_from(alloc, caller, word, words),
         _ => Err(LineFault::Bad),
     }
 }

@@ -56,7 +56,7 @@ pub fn put_word(out: &mut Vec<u8>, bytes: &[u8]) -> Result<(), AllocError>
 }
 
 /// How far the escape of a byte has come.
-#[derive(Clone, Copy, Debug, PartialEq, Eq)]
+#[derive(Clone, Copy)]
 enum Escape {
     /// No escape has begun.
     Outside,

@@ -10,8 +10,6 @@ mod output;
 mod place;
 mod reply;
 mod summary;
-#[cfg(test)]
-mod tests;
 mod trees;
 
 pub use history::put_entry_line;

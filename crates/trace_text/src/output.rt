@@ -66,11 +66,11 @@ pub fn print_output(alloc: Global, h: &History, w: &World, out: &mut Bytes) -> R
     ensures ok { OnOk result (out.new ≡ out.old ++ output_text h.now.entries w.now) }
     ensures err { OnErr result (out.new ≡ out.old) }
 {
-    let mut text = Vec::new(alloc);
+    let mut text = Bytes::new(alloc);
     text.extend_from_slice(first_line())?;
-    put_entries(&mut text, h.as_slice())?;
+    print_history(alloc, h, &mut text)?;
     text.extend_from_slice(trees_line())?;
-    put_trees(alloc, &mut text, w)?;
+    print_trees(alloc, w, &mut text)?;
     text.extend_from_slice(last_line())?;
     out.extend_from_slice(text.as_slice())
 }

@@ -35,8 +35,6 @@ mod lock;
 mod pass;
 mod plays;
 mod steps;
-#[cfg(test)]
-mod tests;
 mod view;
 
 pub use kept::Kept;

@@ -16,10 +16,6 @@ mod queue;
 mod revoking;
 mod rooms;
 mod seat;
-#[cfg(test)]
-mod seat_tests;
-#[cfg(test)]
-mod tests;
 mod turns;
 mod vfs;
 
