@@ -9,10 +9,10 @@ fuzz.py legal PROGRAM SEED COUNT [run|seed]
                                      replay's, whatever the turns were; `run --order` too
 fuzz.py badlines PROGRAM SEED COUNT   the same with scripts that are damaged in one place
 fuzz.py judge SCRIPT OUTPUT STATUS   what PROGRAM wrote for one script is that of a legal history, whatever the
-                                     turns were; or with status 12, where `run --order` was refused an
-                                     allocation, a front of what it writes else
+                                     turns were; or with status 12, a front of that of one
 fuzz.py stats SEED COUNT             what the model answers on such scripts"""
 import collections
+import copy
 import os
 import random
 import subprocess
@@ -488,21 +488,52 @@ def compare(program, seed, count, only=None):
     return 1 if failures else 0
 
 
-def illegal(script, out):
-    """Why the output isn't that of a legal history of this script, or None."""
+# Calls that never answer ENOMEM.
+SURE = ('close', 'read', 'pread', 'lseek', 'fstat')
+
+
+def may_lack(world, doomed, c, call):
+    """Whether the caller's call may answer ENOMEM; `doomed` has the callers with a Doom entry since their last call entry."""
+    return call[0] not in SURE and c not in world.leaving and c not in doomed
+
+
+def next_lines(world, left, doomed):
+    """The lines that may follow a history, or, where no call is left, the trees."""
+    if not any(left.values()):
+        yield b'\n'.join([b'trees', *model.tree_lines(world), b'end', b''])
+    for c in left:
+        if not left[c]:
+            continue
+        call, text = left[c][0]
+        try:
+            yield text + b' = ' + model.reply_text(copy.deepcopy(world).apply(c, call)) + b'\n'
+        except Fail as e:
+            yield text + b' = error ' + e.errno.encode() + b'\n'
+        except Need as e:
+            yield b'%d + ' % c + model.inner_text(e.what) + b'\n'
+        if may_lack(world, doomed, c, call):
+            yield text + b' = error ENOMEM\n'
+
+
+def illegal(script, out, front=False):
+    """Why the output isn't that of a legal history of this script, or with `front` not the front of such a one, or None."""
     limits, calls = model.read_script(script)
     w = model.World(limits)
     left = {}
     for c, call, text in calls:
         left.setdefault(c, []).append((call, text))
-    lines = out.split(b'\n')
-    if lines[0] != b'vfs output 1' or lines[-2:] != [b'end', b''] or b'trees' not in lines:
+    *lines, rest = out.split(b'\n')
+    cut = front and b'trees' not in lines
+    if cut and not lines:
+        return None if b'vfs output 1'.startswith(rest) else 'no front of an output: ' + clip(out)
+    if lines[:1] != [b'vfs output 1'] or not front and (lines[-1] != b'end' or rest or b'trees' not in lines):
         return 'the output has not its form: ' + clip(out)
-    at = lines.index(b'trees')
+    at = len(lines) if cut else lines.index(b'trees')
     doomed = set()                       # callers with a Doom entry since their last call entry
 
     def until(i, why):
-        return '\n'.join('    ' + clip(x, 200) for x in lines[:i + 1]) + '\n  entry: ' + clip(lines[i + 1]) + why
+        entry = clip(lines[i + 1] if i + 1 < len(lines) else rest)
+        return '\n'.join('    ' + clip(x, 200) for x in lines[:i + 1]) + '\n  entry: ' + entry + why
 
     for i, l in enumerate(lines[1:at]):
         head = l.split(b' ', 2)
@@ -527,15 +558,19 @@ def illegal(script, out):
             return until(i, '\n  model needs: ' + clip(want[1]))
         if l != text + b' = ' + want[1]:
             return until(i, '\n  model answers: ' + clip(text + b' = ' + want[1]))
-        if want[1] == b'error ENOMEM' and (c in w.leaving or c in doomed):
+        if want[1] == b'error ENOMEM' and not may_lack(w, doomed, c, call):
             return until(i, '\n  no ENOMEM is legal here')
         doomed.discard(c)
         left[c].pop(0)
+    if cut:
+        follows = any(l.startswith(rest) for l in next_lines(w, left, doomed))
+        return None if follows else until(len(lines) - 1, '\n  no line that may follow begins so')
     if any(left.values()):
         return 'calls have no entry: %s' % {c: len(x) for c, x in left.items()}
-    trees = list(model.tree_lines(w))
-    if trees != lines[at + 1:-2]:
-        return difference((0, b'\n'.join(trees)), (0, b'\n'.join(lines[at + 1:-2])))
+    trees = b'\n'.join([*model.tree_lines(w), b'end', b''])
+    found = b'\n'.join([*lines[at + 1:], rest])
+    if trees != found and not (front and trees.startswith(found)):
+        return difference((0, trees), (0, found))
     return None
 
 
@@ -561,11 +596,8 @@ def legal(program, seed, count, form='seed'):
 
 
 def judge(script, out, status):
-    """Looks at one run: of threads, or one in which an allocation was refused."""
-    if status == 12:
-        why = None if by_model(script)[1].startswith(out) else 'no front of the output: ' + clip(out)
-    else:
-        why = illegal(script, out) if status == 0 else 'status %d' % status
+    """Looks at one run, of threads or in which an allocation was refused."""
+    why = illegal(script, out, status == 12) if status in (0, 12) else 'status %d' % status
     if why:
         print(why)
     return 1 if why else 0
