@@ -27,42 +27,6 @@ fn with_file(alloc: Global) -> Result<MemFs, Fail> {
 }
 
 #[test]
-fn a_root_alone(rt: HostRuntime) -> Result<(), Fail> {
-    let alloc = rt.alloc();
-    let fs = MemFs::new(alloc)?;
-    assert!(rt; fs.has_number());
-    assert_eq!(rt; fs.kind(1), Some(Kind::Dir));
-    assert_eq!(rt; fs.kind(2), None);
-    assert!(rt; !fs.is_named(1));
-    assert_eq!(rt; fs.store(alloc)?.next, 2);
-    Ok(())
-}
-
-#[test]
-fn names_of_the_root(rt: HostRuntime) -> Result<(), Fail> {
-    let alloc = rt.alloc();
-    let name = Name::new(alloc, b"name")?;
-    let mut fs = MemFs::new(alloc)?;
-    assert_eq!(rt; fs.find(1, &name), None);
-    assert_eq!(rt; fs.list(alloc, 1)?.len(), 0);
-    assert_eq!(rt; fs.list_white(alloc, 1)?.len(), 0);
-    Ok(())
-}
-
-#[test]
-fn no_file(rt: HostRuntime) -> Result<(), Fail> {
-    let alloc = rt.alloc();
-    let mut fs = MemFs::new(alloc)?;
-    let mut read = ByteBuffer::new(alloc);
-    fs.reserve_to(alloc, 1, 5)?;
-    fs.read_into(1, 0, 0, &mut read);
-    assert_eq!(rt; read.as_slice().len(), 0);
-    assert_eq!(rt; fs.size(1), 0);
-    assert!(rt; fs.target(1).is_none());
-    Ok(())
-}
-
-#[test]
 fn a_new_directory(rt: HostRuntime) -> Result<(), Fail> {
     let alloc = rt.alloc();
     let mut fs = with_dir(alloc)?;
@@ -78,29 +42,6 @@ fn a_new_directory(rt: HostRuntime) -> Result<(), Fail> {
 }
 
 #[test]
-fn a_new_file(rt: HostRuntime) -> Result<(), Fail> {
-    let alloc = rt.alloc();
-    let mut fs = with_dir(alloc)?;
-    let name = Name::new(alloc, b"file")?;
-    assert_eq!(rt; make(alloc, &mut fs, 2, name, NewNode::File)?, 3);
-    assert_eq!(rt; fs.kind(3), Some(Kind::File));
-    assert_eq!(rt; fs.size(3), 0);
-    Ok(())
-}
-
-#[test]
-fn a_new_link(rt: HostRuntime) -> Result<(), Fail> {
-    let alloc = rt.alloc();
-    let mut fs = MemFs::new(alloc)?;
-    let target = Bytes::copy_of(alloc, b"/dir/file")?;
-    let name = Name::new(alloc, b"link")?;
-    assert_eq!(rt; make(alloc, &mut fs, 1, name, NewNode::Link { target })?, 2);
-    assert_eq!(rt; fs.kind(2), Some(Kind::Link));
-    assert_eq!(rt; fs.target(2), Some(b"/dir/file".as_slice()));
-    Ok(())
-}
-
-#[test]
 fn a_new_copy(rt: HostRuntime) -> Result<(), Fail> {
     let alloc = rt.alloc();
     let mut fs = MemFs::new(alloc)?;
@@ -110,84 +51,6 @@ fn a_new_copy(rt: HostRuntime) -> Result<(), Fail> {
     let name = Name::new(alloc, b"copy")?;
     assert_eq!(rt; make(alloc, &mut fs, 1, name, NewNode::Copy { bytes })?, 2);
     assert_eq!(rt; fs.size(2), 3);
-    Ok(())
-}
-
-/// Whether a node that is made over a whiteout is an opaque directory.
-fn is_opaque_over_a_whiteout(alloc: Global, node: NewNode) -> Result<bool, Fail> {
-    let mut fs = MemFs::new(alloc)?;
-    let name = Name::new(alloc, b"name")?;
-    remove(alloc, &mut fs, 1, &name, true)?;
-    let ino = make(alloc, &mut fs, 1, name, node)?;
-    match fs.facts(ino) {
-        Some(facts) => Ok(facts.opaque),
-        None => Ok(false),
-    }
-}
-
-#[test]
-fn a_directory_over_a_whiteout(rt: HostRuntime) -> Result<(), Fail> {
-    let alloc = rt.alloc();
-    assert!(rt; is_opaque_over_a_whiteout(alloc, NewNode::Dir)?);
-    assert!(rt; !is_opaque_over_a_whiteout(alloc, NewNode::Shadow)?);
-    Ok(())
-}
-
-#[test]
-fn remove_a_name(rt: HostRuntime) -> Result<(), Fail> {
-    let alloc = rt.alloc();
-    let mut fs = with_file(alloc)?;
-    let name = Name::new(alloc, b"file")?;
-    remove(alloc, &mut fs, 1, &name, false)?;
-    assert_eq!(rt; fs.find(1, &name), None);
-    assert!(rt; !fs.is_named(2));
-    Ok(())
-}
-
-#[test]
-fn remove_a_name_with_a_whiteout(rt: HostRuntime) -> Result<(), Fail> {
-    let alloc = rt.alloc();
-    let mut fs = with_file(alloc)?;
-    let name = Name::new(alloc, b"file")?;
-    remove(alloc, &mut fs, 1, &name, true)?;
-    assert_eq!(rt; fs.find(1, &name), Some(NameEntry::White));
-    assert_eq!(rt; fs.list_white(alloc, 1)?.as_slice().first(), Some(&name));
-    Ok(())
-}
-
-#[test]
-fn remove_a_directory(rt: HostRuntime) -> Result<(), Fail> {
-    let alloc = rt.alloc();
-    let mut fs = with_dir(alloc)?;
-    remove(alloc, &mut fs, 2, &Name::new(alloc, b"gone")?, true)?;
-    remove(alloc, &mut fs, 1, &Name::new(alloc, b"dir")?, false)?;
-    let facts = DirFacts {
-        parent: 1,
-        opaque: false,
-        linked: false,
-    };
-    assert_eq!(rt; fs.facts(2), Some(facts));
-    assert_eq!(rt; fs.list_white(alloc, 2)?.len(), 0);
-    Ok(())
-}
-
-#[test]
-fn rename_over_a_name(rt: HostRuntime) -> Result<(), Fail> {
-    let alloc = rt.alloc();
-    let mut fs = with_file(alloc)?;
-    let old = Name::new(alloc, b"file")?;
-    let new = Name::new(alloc, b"other")?;
-    make(
-        alloc,
-        &mut fs,
-        1,
-        Name::new(alloc, b"other")?,
-        NewNode::File,
-    )?;
-    rename(alloc, &mut fs, 1, &old, 1, &new, true, false)?;
-    assert_eq!(rt; fs.find(1, &old), Some(NameEntry::White));
-    assert_eq!(rt; fs.find(1, &new), Some(NameEntry::Ino { ino: 2 }));
-    assert!(rt; !fs.is_named(3));
     Ok(())
 }
 
@@ -207,18 +70,6 @@ fn rename_into_another_directory(rt: HostRuntime) -> Result<(), Fail> {
         linked: true,
     };
     assert_eq!(rt; fs.facts(3), Some(facts));
-    Ok(())
-}
-
-#[test]
-fn a_further_name(rt: HostRuntime) -> Result<(), Fail> {
-    let alloc = rt.alloc();
-    let mut fs = with_file(alloc)?;
-    link(alloc, &mut fs, 2, 1, Name::new(alloc, b"again")?)?;
-    remove(alloc, &mut fs, 1, &Name::new(alloc, b"file")?, false)?;
-    let again = Name::new(alloc, b"again")?;
-    assert_eq!(rt; fs.find(1, &again), Some(NameEntry::Ino { ino: 2 }));
-    assert!(rt; fs.is_named(2));
     Ok(())
 }
 
@@ -372,16 +223,6 @@ fn a_box_is_asked_for_each_operation(rt: HostRuntime) -> Result<(), Fail> {
 }
 
 #[test]
-fn the_name_of_a_directory(rt: HostRuntime) -> Result<(), Fail> {
-    let alloc = rt.alloc();
-    let fs = with_dir(alloc)?;
-    assert_eq!(rt; fs.name_of(2), Some(&Name::new(alloc, b"dir")?));
-    assert!(rt; fs.name_of(1).is_none());
-    assert!(rt; fs.name_of(3).is_none());
-    Ok(())
-}
-
-#[test]
 fn the_name_of_a_renamed_directory(rt: HostRuntime) -> Result<(), Fail> {
     let alloc = rt.alloc();
     let mut fs = with_dir(alloc)?;
@@ -397,14 +238,5 @@ fn the_name_of_a_renamed_directory(rt: HostRuntime) -> Result<(), Fail> {
         false,
     )?;
     assert_eq!(rt; fs.name_of(2), Some(&new));
-    Ok(())
-}
-
-#[test]
-fn the_name_of_a_removed_directory(rt: HostRuntime) -> Result<(), Fail> {
-    let alloc = rt.alloc();
-    let mut fs = with_dir(alloc)?;
-    remove(alloc, &mut fs, 1, &Name::new(alloc, b"dir")?, false)?;
-    assert!(rt; fs.name_of(2).is_none());
     Ok(())
 }

@@ -239,34 +239,6 @@ mod tests {
         table.get(number).map(|mount| mount.cut)
     }
 
-    // A union of two mounts' roots, on the directory with that inode.
-    fn add_union(table: &mut MountTable, store: u32, below: u32, on: u32) -> bool {
-        if table.get(store).is_none() || table.get(below).is_none() {
-            return false;
-        }
-        let kind = MountKind::Union {
-            store,
-            upper: 1,
-            lower: Place::mem(below, 1),
-        };
-        table.add(kind, Place::mem(0, on)).is_ok()
-    }
-
-    fn drop_mount(table: &mut MountTable, number: u32) -> bool {
-        if table.get(number).is_none() {
-            return false;
-        }
-        table.drop_mount(number);
-        true
-    }
-
-    fn slot_of(table: &MountTable, number: u32) -> Option<u32> {
-        if table.get(number).is_none() {
-            return None;
-        }
-        Some(table.slot(number))
-    }
-
     #[test]
     fn a_mount_is_cut_with_those_over_it(rt: HostRuntime) -> Result<(), Fail> {
         let mut table = MountTable::new(rt.alloc(), 5)?;
@@ -281,48 +253,6 @@ mod tests {
         assert!(rt; table.top_on(&Place::mem(0, 3)) == Some(2));
         for (number, cut) in [(0, false), (1, true), (2, true), (3, true), (4, false)] {
             assert_eq!(rt; is_cut(&table, number), Some(cut));
-        }
-        Ok(())
-    }
-
-    // Mount 2 covers the root of mount 1, and mount 3 that of mount 2. None of them stands on another.
-    #[test]
-    fn the_uppermost_of_three_mounts_goes(rt: HostRuntime) -> Result<(), Fail> {
-        let mut table = MountTable::new(rt.alloc(), 4)?;
-        for (number, on) in [
-            (1, Place::mem(0, 2)),
-            (2, Place::mem(1, 1)),
-            (3, Place::mem(2, 1)),
-        ] {
-            assert!(rt; table.add(MountKind::Mem, on) == Ok(number));
-        }
-        let slot = slot_of(&table, 3);
-        assert!(rt; slot.is_some() && slot != slot_of(&table, 2) && slot_of(&table, 4).is_none());
-        assert!(rt; detach(&mut table, 3, 1) && table.is_left(3) && !table.is_left(2));
-        assert!(rt; is_cut(&table, 3) == Some(true) && is_cut(&table, 2) == Some(false));
-        assert!(rt; table.top_on(&Place::mem(2, 1)).is_none());
-        assert!(rt; table.top_on(&Place::mem(1, 1)) == Some(2));
-        assert!(rt; slot_of(&table, 3) == slot);
-        assert!(rt; drop_mount(&mut table, 3) && !drop_mount(&mut table, 3));
-        assert!(rt; table.leaving(1).is_none() && !table.is_left(3));
-        assert!(rt; table.at(2).is_some() && table.at(3).is_none());
-        assert!(rt; table.add(MountKind::Mem, Place::mem(2, 1)) == Ok(4));
-        assert!(rt; table.top_on(&Place::mem(2, 1)) == Some(4));
-        assert!(rt; slot_of(&table, 4) == slot);
-        assert!(rt; detach(&mut table, 1, 1) && table.top_on(&Place::mem(0, 2)).is_none());
-        assert!(rt; is_cut(&table, 1) == Some(true) && is_cut(&table, 2) == Some(false));
-        Ok(())
-    }
-
-    #[test]
-    fn a_union_stands_on_both_layers(rt: HostRuntime) -> Result<(), Fail> {
-        let mut table = MountTable::new(rt.alloc(), 5)?;
-        assert!(rt; table.add(MountKind::Mem, Place::mem(0, 2)) == Ok(1));
-        assert!(rt; table.add(MountKind::Mem, Place::mem(0, 3)) == Ok(2));
-        assert!(rt; add_view(&mut table, 2, 4));
-        assert!(rt; add_union(&mut table, 1, 3, 5));
-        for (below, stands) in [(0, false), (1, true), (2, true), (3, true), (4, false)] {
-            assert_eq!(rt; table.stands_on(4, below), stands);
         }
         Ok(())
     }

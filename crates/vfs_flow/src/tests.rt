@@ -1,26 +1,14 @@
 ghost use Rattle.std.specs.Prelude.{◌≤◌, IfOk, Some};
 
 use crate::{
-    FlagGate, Gate, Got, MeetGate, MemSink, MemSource, OpenGate, Pace, Put, Sink, Source, StdSink,
-    StdSource, SureSink, SureSource, WholeRead, WholeWrite, read_to_end, write_all,
+    FlagGate, Gate, Got, MeetGate, MemSink, MemSource, Pace, Put, Sink, Source, StdSink, StdSource,
+    SureSource, WholeRead, WholeWrite, read_to_end, write_all,
 };
 use std::io;
 use std::io::{ErrorKind, Read, Write};
 use std::test::Fail;
 
 const TEXT: &[u8] = b"one line and then another line";
-
-#[test]
-fn a_sure_source_gives_all(rt: HostRuntime) -> Result<(), Fail> {
-    let alloc = rt.alloc();
-    let mut source = SureSource::new(Vec::from_slice(alloc, b"hello")?);
-    let mut into = Vec::new(alloc);
-    for want in [Got::Some { n: 3 }, Got::Some { n: 2 }, Got::End, Got::End] {
-        assert_eq!(rt; source.read(&mut into, 3), want);
-    }
-    assert_eq!(rt; into.as_slice(), b"hello".as_slice());
-    Ok(())
-}
 
 #[test]
 fn a_source_in_memory_fails_at_the_listed_calls(rt: HostRuntime) -> Result<(), Fail> {
@@ -113,50 +101,6 @@ impl Source for Asked {
         }
         self.inner.read(into, most)
     }
-}
-
-#[test]
-fn a_read_asks_for_pieces(rt: HostRuntime) -> Result<(), Fail> {
-    let alloc = rt.alloc();
-    let table: [(usize, usize, &[usize]); 3] = [
-        (10, 1_048_577, &[4096, 4096]),
-        (9_000, 1_048_577, &[4096, 4096, 4096, 4096]),
-        (9_000, 5_000, &[4096, 904]),
-    ];
-    for (len, limit, wanted) in table {
-        assert!(rt; limit >= 1);
-        let mut source = Asked {
-            inner: SureSource::new(vec![in alloc; b'x'; len]?),
-            asks: Vec::new(alloc),
-        };
-        let read = read_to_end(alloc, &mut source, limit);
-        assert!(rt; !matches!(&read, WholeRead::Failed | WholeRead::NoMemory));
-        assert_eq!(rt; source.asks.as_slice(), wanted);
-    }
-    Ok(())
-}
-
-#[test]
-fn a_sure_sink_takes_all(rt: HostRuntime) -> Result<(), Fail> {
-    let alloc = rt.alloc();
-    let mut sink = SureSink::new(alloc);
-    assert_eq!(rt; sink.write(b"one "), Put::Some { n: 4 });
-    assert_eq!(rt; write_all(&mut sink, b""), WholeWrite::Done);
-    assert_eq!(rt; write_all(&mut sink, b"line"), WholeWrite::Done);
-    assert_eq!(rt; sink.bytes(), b"one line".as_slice());
-    Ok(())
-}
-
-#[test]
-fn a_sink_in_memory_fails_without_room(rt: HostRuntime) -> Result<(), Fail> {
-    let alloc = rt.alloc();
-    let mut sink = MemSink::new(alloc, 10);
-    assert_eq!(rt; sink.write(b"one line"), Put::Some { n: 8 });
-    assert_eq!(rt; sink.write(b" and then"), Put::Some { n: 2 });
-    assert_eq!(rt; sink.write(b"and then"), Put::Failed);
-    assert_eq!(rt; sink.write(b"and then"), Put::Failed);
-    assert_eq!(rt; sink.bytes(), b"one line a".as_slice());
-    Ok(())
 }
 
 #[test]
@@ -273,19 +217,6 @@ fn a_writer_is_a_sink(rt: HostRuntime) -> Result<(), Fail> {
 // Whether a gate holds these calls, in their order.
 fn holds<G: Gate>(gate: &G, calls: [(u32, u32); 3]) -> [bool; 3] {
     calls.map(|(caller, call)| gate.before(caller, call) == Pace::Hold)
-}
-
-#[test]
-fn an_open_gate_holds_nobody(rt: HostRuntime) {
-    assert_eq!(rt;
-        holds(&OpenGate, [(1, 0), (1, 0), (2, 7)]),
-        [false, false, false]
-    );
-    OpenGate.told(1, 0);
-    assert_eq!(rt;
-        holds(&OpenGate, [(1, 1), (16, 0), (2, 7)]),
-        [false, false, false]
-    );
 }
 
 #[test]

@@ -3,8 +3,8 @@ use finite_maps::NumberMap;
 use std::alloc::{AllocError, Global};
 use std::test::Fail;
 use vfs_tree::{
-    Bytes, Child, Component, Cwd, DirFacts, Errno, Found, Kind, Leaf, Mount, MountKind, Name,
-    NameEntry, NameFault, NameMap, NameView, Need, Place, Step,
+    Bytes, Component, DirFacts, Found, Kind, Leaf, Mount, MountKind, Name, NameEntry, NameFault,
+    NameMap, NameView, Need, Place, Step,
 };
 
 // A small tree: the root directory 1 with the file `f`, the link `l` to `d/f` and the empty directory `d`. A union whose
@@ -178,24 +178,6 @@ fn paths_are_read(rt: HostRuntime) -> Result<(), Fail> {
 }
 
 #[test]
-fn what_is_no_path(rt: HostRuntime) {
-    let alloc = rt.alloc();
-    let table = [
-        (b"".as_slice(), Errno::ENOENT),
-        (b"a\0", Errno::EINVAL),
-        ([b'/'; 1024].as_slice(), Errno::ENAMETOOLONG),
-        ([b'a'; 256].as_slice(), Errno::ENAMETOOLONG),
-    ];
-    for (bytes, errno) in table {
-        assert_eq!(rt;
-            parse_path(alloc, bytes).err(),
-            Some(PathFault::Refused { errno })
-        );
-    }
-    assert!(rt; parse_path(alloc, [b'/'; 1023].as_slice()).is_ok());
-}
-
-#[test]
 fn places_that_are_found(rt: HostRuntime) -> Result<(), Fail> {
     let alloc = rt.alloc();
     let view = small_tree(alloc)?;
@@ -216,65 +198,6 @@ fn places_that_are_found(rt: HostRuntime) -> Result<(), Fail> {
     Ok(())
 }
 
-#[test]
-fn walks_that_are_refused(rt: HostRuntime) -> Result<(), Fail> {
-    let alloc = rt.alloc();
-    let view = small_tree(alloc)?;
-    let table = [
-        (b"".as_slice(), Leaf::Follow, Errno::ENOENT),
-        (b"/x", Leaf::Follow, Errno::ENOENT),
-        (b"/f/x", Leaf::Create, Errno::ENOTDIR),
-        (b"/x/f", Leaf::Create, Errno::ENOENT),
-        (b"/l/..", Leaf::Follow, Errno::ENOTDIR),
-        (b"/f", Leaf::Mount, Errno::EINVAL),
-    ];
-    for (text, leaf, errno) in table {
-        match find(alloc, &view, leaf, at_root(), text)? {
-            Found::Refused { errno: refused } => assert_eq!(rt; refused, errno),
-            _ => assert!(rt; false),
-        }
-    }
-    Ok(())
-}
-
-#[test]
-fn names_mounts_and_needs(rt: HostRuntime) -> Result<(), Fail> {
-    let alloc = rt.alloc();
-    let view = small_tree(alloc)?;
-    let from = in_place(alloc, &view, &Place::mem(0, 1))?;
-    let path = parse_path(alloc, b"d/f")?;
-    let found = walk(alloc, &view, Leaf::Parent, from, &path)?;
-    match &found {
-        Found::In { dir, name, child } => {
-            assert!(rt; dir.same(&Place::union_up(1, 4)));
-            assert_eq!(rt; name.as_slice(), b"f".as_slice());
-            match child {
-                Some(child) => assert!(rt; child.same(&low_file(alloc)?)),
-                None => assert!(rt; false),
-            }
-        }
-        _ => assert!(rt; false),
-    }
-    match find(alloc, &view, Leaf::Parent, at_root(), b"/d/..")? {
-        Found::Dot { dir } => assert!(rt; dir.same(&Place::union_up(1, 4))),
-        _ => assert!(rt; false),
-    }
-    match find(alloc, &view, Leaf::Mount, at_root(), b"/d")? {
-        Found::Mount { number } => assert_eq!(rt; number, 1),
-        _ => assert!(rt; false),
-    }
-    let found = find(alloc, &view, Leaf::Follow, at_root(), b"/d/d")?;
-    match &found {
-        Found::Need { need } => {
-            assert_eq!(rt; need.mount, 1);
-            assert_eq!(rt; need.dir, 4);
-            assert_eq!(rt; need.name.as_slice(), b"d".as_slice());
-        }
-        _ => assert!(rt; false),
-    }
-    Ok(())
-}
-
 // What a text names at the union's root.
 fn named(alloc: Global, view: &Small, text: &[u8], follow: bool) -> Result<Walked, PathFault> {
     let start = Place::union_up(1, 4);
@@ -283,96 +206,4 @@ fn named(alloc: Global, view: &Small, text: &[u8], follow: bool) -> Result<Walke
         Ok(walked) => Ok(walked),
         Err(_) => Err(PathFault::NoMemory),
     }
-}
-
-#[test]
-fn what_paths_name(rt: HostRuntime) -> Result<(), Fail> {
-    let alloc = rt.alloc();
-    let view = small_tree(alloc)?;
-    for follow in [true, false] {
-        let walked = named(alloc, &view, b"f", follow)?;
-        match &walked {
-            Walked::Found { place } => assert!(rt; place.same(&low_file(alloc)?)),
-            _ => assert!(rt; false),
-        }
-        let walked = named(alloc, &view, b"../x", follow)?;
-        match &walked {
-            Walked::Absent { dir, name } => {
-                assert!(rt; dir.same(&Place::mem(0, 1)));
-                assert_eq!(rt; name.as_slice(), b"x".as_slice());
-            }
-            _ => assert!(rt; false),
-        }
-        let walked = named(alloc, &view, b"x/x", follow)?;
-        match &walked {
-            Walked::Refused { errno } => assert_eq!(rt; *errno, Errno::ENOENT),
-            _ => assert!(rt; false),
-        }
-        let walked = named(alloc, &view, b"d", follow)?;
-        match &walked {
-            Walked::Need { mount, dir, name } => {
-                assert_eq!(rt; *mount, 1);
-                assert_eq!(rt; *dir, 4);
-                assert_eq!(rt; name.as_slice(), b"d".as_slice());
-            }
-            _ => assert!(rt; false),
-        }
-    }
-    Ok(())
-}
-
-#[test]
-fn places_and_their_layers(rt: HostRuntime) -> Result<(), Fail> {
-    let alloc = rt.alloc();
-    let view = small_tree(alloc)?;
-    let root_dir = Place::mem(0, 1);
-    let top = root(alloc, &view, 1)?;
-    assert!(rt; top.same(&Place::union_up(1, 4)));
-    assert!(rt; is_root(&view, &top));
-    assert_eq!(rt; base(&view, &top).ino, 4);
-    assert_eq!(rt; kind_of(&view, &top), Some(Kind::Dir));
-    assert!(rt; is_dir(&view, &top));
-    assert!(rt; is_file(&view, &low_file(alloc)?));
-    assert_eq!(rt;
-        target_of(&view, &Place::mem(0, 3)),
-        Some(b"d/f".as_slice())
-    );
-    assert!(rt; is_linked(&view, &top));
-    assert!(rt; !is_cut(&view, 1));
-    assert!(rt; parent_in(alloc, &view, &Place::mem(0, 4))?.same(&root_dir));
-    assert_eq!(rt; depth(&view, &top), 1);
-    assert!(rt; has_store(&view, &top, 0));
-    assert!(rt; matches!(check_dir(&view, &top), Step::Go { .. }));
-    match enter(alloc, &view, false, Place::mem(0, 4))? {
-        Step::Go { value } => assert!(rt; value.same(&top)),
-        _ => assert!(rt; false),
-    }
-    match child_of(alloc, &view, &top, &name(alloc, b"f")?)? {
-        Child::At { place } => assert!(rt; place.same(&low_file(alloc)?)),
-        _ => assert!(rt; false),
-    }
-    match low(alloc, &view, 1, 4)? {
-        Child::At { place } => assert!(rt; place.same(&root_dir)),
-        _ => assert!(rt; false),
-    }
-    Ok(())
-}
-
-#[test]
-fn starts(rt: HostRuntime) -> Result<(), Fail> {
-    let alloc = rt.alloc();
-    let view = small_tree(alloc)?;
-    let cwd = Cwd {
-        place: Place::mem(0, 4),
-        dead: false,
-    };
-    match in_cwd(alloc, &view, Some(&cwd))? {
-        Step::Go { value } => assert!(rt; value.same(&cwd.place)),
-        _ => assert!(rt; false),
-    }
-    match in_cwd(alloc, &view, None)? {
-        Step::Refuse { errno } => assert_eq!(rt; errno, Errno::ENOTDIR),
-        _ => assert!(rt; false),
-    }
-    Ok(())
 }

@@ -3,38 +3,6 @@ use finite_maps::Duplicate;
 use std::alloc::Global;
 use std::test::Fail;
 
-#[test]
-fn errors(rt: HostRuntime) {
-    let table = [
-        (Errno::EPERM, 1, "EPERM"),
-        (Errno::ENOENT, 2, "ENOENT"),
-        (Errno::EIO, 5, "EIO"),
-        (Errno::ENXIO, 6, "ENXIO"),
-        (Errno::EBADF, 9, "EBADF"),
-        (Errno::EDEADLK, 11, "EDEADLK"),
-        (Errno::ENOMEM, 12, "ENOMEM"),
-        (Errno::EBUSY, 16, "EBUSY"),
-        (Errno::EEXIST, 17, "EEXIST"),
-        (Errno::EXDEV, 18, "EXDEV"),
-        (Errno::ENOTDIR, 20, "ENOTDIR"),
-        (Errno::EISDIR, 21, "EISDIR"),
-        (Errno::EINVAL, 22, "EINVAL"),
-        (Errno::ENFILE, 23, "ENFILE"),
-        (Errno::EMFILE, 24, "EMFILE"),
-        (Errno::EFBIG, 27, "EFBIG"),
-        (Errno::ENOSPC, 28, "ENOSPC"),
-        (Errno::EROFS, 30, "EROFS"),
-        (Errno::EAGAIN, 35, "EAGAIN"),
-        (Errno::ELOOP, 62, "ELOOP"),
-        (Errno::ENAMETOOLONG, 63, "ENAMETOOLONG"),
-        (Errno::ENOTEMPTY, 66, "ENOTEMPTY"),
-    ];
-    for (errno, number, text) in table {
-        assert_eq!(rt; errno_number(errno), number);
-        assert_eq!(rt; errno_text(errno), text);
-    }
-}
-
 fn name(alloc: Global, bytes: &[u8]) -> Result<Name, NameFault> {
     Name::new(alloc, bytes)
 }
@@ -90,27 +58,6 @@ fn a_map_by_names(rt: HostRuntime) -> Result<(), Fail> {
     assert_eq!(rt; copy.iter().next(), Some((&long, &1)));
     assert_eq!(rt; copy.remove(&short), Some(3));
     Ok(())
-}
-
-#[test]
-fn a_list_of_names(rt: HostRuntime) -> Result<(), Fail> {
-    let alloc = rt.alloc();
-    let first = name(alloc, b"z")?;
-    assert!(rt; NameList::of(Vec::new(alloc)).is_empty());
-    let list = NameList::of(Vec::from_array(alloc, [first.duplicate(alloc)?])?);
-    assert_eq!(rt; list.len(), 1);
-    assert_eq!(rt; list.get(0), Some(&first));
-    assert!(rt; list.get(1).is_none());
-    assert_eq!(rt; list.as_slice().len(), 1);
-    Ok(())
-}
-
-#[test]
-fn what_is_no_name(rt: HostRuntime) {
-    let alloc = rt.alloc();
-    for bytes in [b"".as_slice(), b".", b"..", b"a/b", b"\0"] {
-        assert_eq!(rt; name(alloc, bytes).err(), Some(NameFault::Bad));
-    }
 }
 
 /// The bytes of a regular file.
